@@ -1,7 +1,7 @@
 /* The names of the statuses, and the version. */
 #include "oascanon.h"
 
-/* Each name at its number: scripts/library makes reasons.h of the definitions in crates/oas_num and crates/oas_wide. */
+/* Each name at its number: scripts/library makes reasons.h of the definitions in crates/oas_num and crates/oas_standard. */
 static const char *const names[] = {
     [OASCANON_DONE] = "Done",
     [OASCANON_NO] = "No",

@@ -17,8 +17,6 @@ class Definition:
         return self.crate, self.file, self.name
 
 
-# A lower crate is named through the layer above it, which re-exports it under its own name.
-THROUGH = re.compile(r"\bRattle\.\w+\.specs\.(oas_\w+)\.")
 BEGINS = re.compile(r"^(abbrev|unfoldable|record|data|pub)\b")
 
 
@@ -45,7 +43,6 @@ def blocks(text):
 def imports(text):
     """What each imported word means: the crate, the file and the name; a name of None is the whole file."""
     found = {}
-    text = THROUGH.sub(r"Rattle.\1.specs.", text)
     for crate, file, names, alias in re.findall(r"^(?:pub )?use Rattle\.(\w+)\.specs\.(\w+)(?:\.\{([^}]*)\})?(?: as (\w+))?", text, re.M):
         if names:
             for part in names.split(","):
@@ -77,15 +74,23 @@ def is_of_laws(file):
 
 
 def handed_on():
-    """For each crate the files of those below it that its specs/Lib.antt re-exports, with the crate of each."""
+    """For each crate the files of those below it that its specs/Lib.antt re-exports: by crate and name, whose they are and what
+    they are called there."""
     found = {}
     for path in TOP.glob("crates/*/specs/Lib.antt"):
-        for crate, file in re.findall(r"^pub use Rattle\.(\w+)\.specs\.(\w+)$", path.read_text(), re.M):
-            found[path.parts[-3], file] = crate
+        for crate, file, alias in re.findall(r"^pub use Rattle\.(\w+)\.specs\.(\w+)(?: as (\w+))?$", path.read_text(), re.M):
+            found[path.parts[-3], alias or file] = crate, file
     return found
 
 
 HANDED_ON = handed_on()
+
+
+def origin(crate, file):
+    """Where a file that a crate hands on stands."""
+    while (crate, file) in HANDED_ON:
+        crate, file = HANDED_ON[crate, file]
+    return crate, file
 
 
 def rests_on(one, definitions, imported):
@@ -94,7 +99,7 @@ def rests_on(one, definitions, imported):
     here = imported[one.crate, one.file]
     for word in sorted(one.words):
         key = here.get(word, (one.crate, one.file, word))
-        key = (HANDED_ON.get(key[:2], key[0]), key[1], key[2])
+        key = (*origin(*key[:2]), key[2])
         if key[2] is None:
             for name in re.findall(rf"\b{word}\.([A-Za-z_][A-Za-z0-9_']*)", text):
                 key = (key[0], key[1], name)

@@ -5,7 +5,7 @@ import re
 import sys
 
 TOP = pathlib.Path(__file__).resolve().parents[2]
-TESTS = TOP / "crates/command_tests/src/tests"
+TESTS = TOP / "crates/program_tests/src/commands"
 CHECKED = TOP / "crates/canon_tests/src/files/table.rt"
 sys.path.insert(0, str(TOP / "tests/rows"))
 

@@ -19,7 +19,7 @@ from collections import namedtuple
 
 HERE = pathlib.Path(__file__).resolve().parent
 STANDARD = (2**24, 2**28, 2**36)
-# As in crates/file_pieces.
+# As in crates/test_tools.
 WORDS = {
     "MAGIC": "2553454D492D4F415349530D0A", "START": "0103312E30", "OFFSETS": "00*13", "CELL": "0E0141",
     "RECT": "147B01000A140000", "BOX": "153B010004030128290001290000", "HEAD": "MAGIC START 00E807 OFFSETS",

@@ -1,6 +1,7 @@
 //! Elements by plain values, as the rows of tests give them.
 
-use oas_layout::{Draft, Element, Extensions, Layer, Turns};
+use oas_canon::Draft;
+use oas_elements::{Element, Extensions, Layer, Turns};
 use oas_num::{Label, Name};
 use oas_ring::{Point, Points};
 use std::alloc::Global;

@@ -3,13 +3,11 @@
 mod table;
 
 use self::table::ROWS;
-use file_pieces::bytes_of;
-use oas_judge::oas_compact::ByProfileTwo;
-use oas_judge::oas_runs::CompactLayout;
-use oas_judge::{is_canonical, read_judged};
-use oas_layout::{Limits, Profile};
+use oas_elements::{Limits, Profile};
+use oas_judge::{Layout, is_canonical, read_judged};
 use oas_num::{INPUT_MAX, Refusal, SliceSource};
 use std::alloc::Global;
+use test_tools::bytes_of;
 
 /// Whether a file is canonical, or its refusal as the number of its reason and its place.
 type Answer = Result<bool, (u8, u64)>;
@@ -77,22 +75,28 @@ fn each_row(rt: HostRuntime) {
 
 /// The layout of a file, kept by profile two, and whether the file is canonical by profile one, if at most this many bytes
 /// are read.
-fn judged(alloc: Global, file: &[u8], limit: u64) -> Result<(CompactLayout, bool), Refusal> {
+fn judged(alloc: Global, file: &[u8], limit: u64) -> Result<(Layout, bool), Refusal> {
     let mut source = SliceSource::new(file, limit);
-    read_judged::<_, ByProfileTwo>(alloc, &mut source, Limits::standard(), Profile::One)
+    read_judged(
+        alloc,
+        &mut source,
+        Limits::standard(),
+        Profile::One,
+        Profile::Two,
+    )
 }
 
 /// Drops a value in a step of its own, since that is expensive to prove beside other values.
 fn discard<T: Drop>(_value: T) {}
 
 /// The same for a file that is given in pieces.
-fn pieces_judged(alloc: Global, pieces: &str) -> Option<(CompactLayout, bool)> {
+fn pieces_judged(alloc: Global, pieces: &str) -> Option<(Layout, bool)> {
     let file = bytes_of(alloc, pieces).ok()?;
     judged(alloc, file.as_slice(), INPUT_MAX).ok()
 }
 
 /// Whether a file is canonical, and whether it has this layout.
-fn compared_with(alloc: Global, layout: &CompactLayout, pieces: &str) -> Option<[bool; 2]> {
+fn compared_with(alloc: Global, layout: &Layout, pieces: &str) -> Option<[bool; 2]> {
     let (other, is_canonical) = pieces_judged(alloc, pieces)?;
     let is_same = layout.same(&other);
     discard(other);

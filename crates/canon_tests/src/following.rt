@@ -2,8 +2,8 @@
 
 use self::Step::{Drawn, Next};
 use crate::elements::{Plain, label, name};
-use oas_judge::oas_form::FormJudge;
-use oas_layout::Turns;
+use oas_elements::Turns;
+use oas_judge::FormJudge;
 use std::alloc::Global;
 
 /// What a judge is given.

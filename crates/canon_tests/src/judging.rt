@@ -1,8 +1,8 @@
 //! Records whose canonical bytes are known from outside, and records that no canonical file has there.
 
 use crate::elements::{Plain, name};
-use oas_judge::oas_form::FormJudge;
-use oas_layout::Turns;
+use oas_elements::Turns;
+use oas_judge::FormJudge;
 use std::alloc::Global;
 
 /// A rectangle of layer 1, and one of layer 2.

@@ -1,7 +1,16 @@
-//! What no contract of oas_file, oas_form, oas_judge and oas_canon says, tested by their public calls alone: they succeed where
-//! memory is there; the bytes of layouts and the results of both judges that are known from outside; and the results for small
-//! files, failing devices and failing allocations. The tests are in a crate of their own so that those crates are proved
-//! without them. Rows of whole files are in command_tests and tests/rows.
+//! What no contract of the crates that judge, write and report says, tested by their public calls alone: they succeed where
+//! memory is there; bytes, texts and results that are known from outside; and failing devices and allocations. The tests are
+//! in a crate of their own so that those crates are proved without them. Rows of whole files are in program_tests and
+//! tests/rows.
+//!
+//! | file | what it tests |
+//! |---|---|
+//! | following.rt, judging.rt | oas_form: the judge of records |
+//! | files | oas_file, oas_judge: files that are canonical, and files that differ from one in one thing |
+//! | writing.rt | oas_writing: layouts whose bytes are known |
+//! | reading.rt, calls | oas_canon: small files, and where memory runs out |
+//! | reports | oas_listing, oas_difference and those below it, oas_markers, oas_info: texts, and writers that fail |
+//! | elements.rt, narrow.rt | what several of them use: elements by plain values, and a writer that fails |
 #![tactic(auto)]
 
 #[cfg(test)]
@@ -15,6 +24,10 @@ mod following;
 #[cfg(test)]
 mod judging;
 #[cfg(test)]
+mod narrow;
+#[cfg(test)]
 mod reading;
+#[cfg(test)]
+mod reports;
 #[cfg(test)]
 mod writing;

@@ -1,43 +1,12 @@
 //! Layouts whose bytes are known from outside, into sinks and writers of several kinds.
 
 use crate::elements::{Plain, add_cell};
-use file_pieces::put_pieces;
-use oas_judge::oas_form::{has_canonical_bytes, put_canonical, write_canonical};
-use oas_layout::{Draft, Layout, Limits, Profile, Turns};
+use crate::narrow::Narrow;
+use oas_canon::{Draft, Layout, has_canonical_bytes, put_canonical, write_canonical};
+use oas_elements::{Limits, Profile, Turns};
 use oas_num::{Counter, Fraction, NotedWriter, Refusal, Why};
 use std::alloc::Global;
-use std::io;
-use std::io::Write;
-
-/// A writer that takes at most `most` bytes a call and `room` in all, and then returns an error, or 0.
-#[derive(Drop)]
-struct Narrow {
-    took: Vec<u8>,
-    most: usize,
-    room: usize,
-    fails: bool,
-    flushes: bool,
-}
-
-impl Write for Narrow {
-    fn write(&mut self, piece: &[u8]) -> io::Result<usize> {
-        let count = self.most.min(self.room).min(piece.len());
-        if count == 0 && self.fails {
-            return Err(io::Error::from(io::ErrorKind::Other));
-        }
-        self.took.extend_from_slice(&piece[..count])?;
-        self.room -= count;
-        Ok(count)
-    }
-
-    fn flush(&mut self) -> io::Result<()> {
-        if self.flushes {
-            Ok(())
-        } else {
-            Err(io::Error::from(io::ErrorKind::Other))
-        }
-    }
-}
+use test_tools::put_pieces;
 
 /// A layout and its bytes.
 #[derive(Clone, Copy)]

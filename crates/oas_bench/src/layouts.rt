@@ -2,7 +2,8 @@
 
 use crate::generator::Numbers;
 use crate::shapes::{polygon, rectangle};
-use oas_layout::{Draft, Element, Layout, Limits, Profile};
+use oas_elements::{Element, Limits, Profile};
+use oas_layout::{Draft, Elements, Layout};
 use oas_num::{Fraction, Name};
 use std::alloc::{AllocError, Global};
 use std::io;
@@ -90,11 +91,17 @@ fn element(alloc: Global, is_polygon: bool, place: u64) -> Result<Element, Alloc
 
 /// How many distinct elements the first cell has.
 fn distinct(layout: &Layout) -> u64 {
+    match layout.cells().next() {
+        Some((_, elements)) => length(elements),
+        None => 0,
+    }
+}
+
+/// How many elements these are, each counted once.
+fn length(elements: Elements<'_>) -> u64 {
     let mut found = 0;
-    if layout.cell_count() > 0 {
-        for _element in layout.elements(0) {
-            found = u64::min(found, 1 << 40) + 1;
-        }
+    for _element in elements {
+        found = u64::min(found, 1 << 40) + 1;
     }
     found
 }

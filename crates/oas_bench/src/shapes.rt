@@ -1,6 +1,6 @@
 //! The elements to be added.
 
-use oas_layout::Element;
+use oas_elements::Element;
 use oas_ring::{Point, Points};
 use std::alloc::{AllocError, Global};
 

@@ -16,7 +16,7 @@ use Rattle.oas_inflate.specs.Cut.{IsCutOff}
 use Rattle.oas_inflate.specs.Reading.{Found, Nothing, Longer, Spot, Through, CutShort, FoundOn, FailsWithin}
 use Rattle.oas_inflate.proofs.BitLemmas.{bits_of-whole}
 use Rattle.oas_inflate.proofs.ThroughLemmas.{Consumed-none, Consumed-then}
-use Rattle.oas_wide.specs.declared.blocks.BlockHead.{BlockHead}
+use Rattle.oas_standard.specs.declared.blocks.BlockHead.{BlockHead}
 use Rattle.oas_block.specs.declared.block.BlockEnd.{BlockEnd}
 use Rattle.oas_block.specs.declared.block.BlockEnd.TheVariants as ends
 use Rattle.oas_block.specs.declared.faults.BlockFault.{BlockFault}

@@ -6,7 +6,7 @@ use Rattle.oas_inflate.specs.Codes.{IsSymbol, IsAt, symbols_of, first_code, IsCo
 use Rattle.oas_inflate.specs.Grammar.{Then, When, Either, Only, Chain, Steps}
 use Rattle.oas_inflate.specs.Deflate.{IsNumbers, IsStored, length_extra, length_base, distance_extra, distance_base, IsCopy, IsFar, IsMatch, IsToken, IsBlockEnd, IsCoded, in_order, IsAgain, last_of, IsRun, IsLengthStep, IsLengthEnd, IsLengths, IsWithCodes, IsDynamic, IsBody, IsBlock, IsDeflated, fixed_literals, fixed_distances}
 use Rattle.oas_inflate.proofs.CodeLemmas.{only_here}
-use Rattle.oas_wide.specs.declared.blocks.BlockHead.{BlockHead}
+use Rattle.oas_standard.specs.declared.blocks.BlockHead.{BlockHead}
 use Rattle.oas_block.specs.Blocks.{Represents}
 
 -- at most one value is encoded there, and it ends in one place

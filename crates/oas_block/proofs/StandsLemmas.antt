@@ -4,7 +4,7 @@ use Rattle.oas_num.specs.Script.{Script}
 use Rattle.oas_inflate.specs.Bits.{bits_of}
 use Rattle.oas_inflate.specs.Deflate.{IsDeflated}
 use Rattle.oas_inflate.specs.Reading.{Nothing, Longer}
-use Rattle.oas_wide.specs.declared.blocks.BlockHead.{BlockHead}
+use Rattle.oas_standard.specs.declared.blocks.BlockHead.{BlockHead}
 use Rattle.oas_block.specs.Blocks.{Represents}
 use Rattle.oas_block.specs.Reading.{Tells, ConsumesAll, IsUnfinished, IsOther}
 

@@ -2,7 +2,7 @@
 use Rattle.std.specs.Prelude.{◌≡◌, ℕ, ◌<◌, List, length}
 use Rattle.oas_inflate.specs.Bits.{bits_of}
 use Rattle.oas_inflate.specs.Deflate.{IsDeflated}
-use Rattle.oas_wide.specs.declared.blocks.BlockHead.{BlockHead}
+use Rattle.oas_standard.specs.declared.blocks.BlockHead.{BlockHead}
 
 -- The bytes are a deflated stream for the plain bytes, with nothing after it except idle bits of the last byte.
 pub record IsPacked (bytes plain : List ℕ) : Type 0 where

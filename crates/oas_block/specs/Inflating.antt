@@ -6,7 +6,7 @@ use Rattle.oas_num.specs.Script.{Script, Consumed, IsAtEnd, HasFailed, IsTooLong
 use Rattle.oas_num.specs.SourceFault.TheVariants.{Device, TooLong}
 use Rattle.oas_inflate.specs.declared.faults.Fault.{Fault}
 use Rattle.oas_inflate.specs.declared.faults.Fault.TheVariants as faults
-use Rattle.oas_wide.specs.declared.blocks.BlockHead.{BlockHead}
+use Rattle.oas_standard.specs.declared.blocks.BlockHead.{BlockHead}
 use Rattle.oas_block.specs.declared.block.BlockEnd.{BlockEnd}
 use Rattle.oas_block.specs.declared.block.BlockEnd.TheVariants as ends
 use Rattle.oas_block.specs.declared.faults.BlockFault.{BlockFault}

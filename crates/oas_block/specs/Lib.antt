@@ -1,6 +1,20 @@
+pub use Rattle.oas_inflate.specs.Zeros
+pub use Rattle.oas_standard.specs.Heads
+pub use Rattle.oas_standard.specs.Long
+pub use Rattle.oas_standard.specs.Reals
+pub use Rattle.oas_standard.specs.Reasons
+pub use Rattle.oas_standard.specs.WideRecords
+pub use Rattle.oas_standard.specs.declared.blocks.BlockHead
+pub use Rattle.oas_standard.specs.declared.ends.Validation
+pub use Rattle.oas_standard.specs.declared.ends.WideEnd
+pub use Rattle.oas_standard.specs.declared.heads.WideStart
+pub use Rattle.oas_standard.specs.declared.placements.WidePlacement
+pub use Rattle.oas_standard.specs.declared.reals.WideReal
+pub use Rattle.oas_standard.specs.declared.reasons.WideRefusal
+pub use Rattle.oas_standard.specs.declared.reasons.WideWhy
+pub use Rattle.oas_standard.specs.declared.records.WideRecord
+pub use Rattle.oas_standard.specs.declared.trapezoids.Trapezoid
 pub mod Blocks
 pub mod Reading
 pub mod Fronts
 pub mod Inflating
-pub use Rattle.oas_inflate.specs.oas_inflated
-pub use Rattle.oas_wide.specs as oas_wide

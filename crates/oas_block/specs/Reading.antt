@@ -6,7 +6,7 @@ use Rattle.oas_inflate.specs.Bits.{bits_of}
 use Rattle.oas_inflate.specs.Deflate.{IsDeflated}
 use Rattle.oas_inflate.specs.Cut.{IsCutOff}
 use Rattle.oas_inflate.specs.Reading.{Found, Nothing, Longer}
-use Rattle.oas_wide.specs.declared.blocks.BlockHead.{BlockHead}
+use Rattle.oas_standard.specs.declared.blocks.BlockHead.{BlockHead}
 use Rattle.oas_block.specs.declared.block.BlockEnd.{BlockEnd}
 use Rattle.oas_block.specs.declared.block.BlockEnd.TheVariants.{Whole, Unfinished, Other}
 use Rattle.oas_block.specs.declared.faults.BlockFault.{BlockFault}

@@ -9,7 +9,7 @@ use crate::fronts::{PrefixSource, Start};
 use oas_inflate::oas_inflated::Inflated;
 use oas_inflate::{Bits, Fault, Stopped, inflate};
 use oas_num::{Source, SourceFault, Why};
-use oas_wide::BlockHead;
+use oas_standard::BlockHead;
 use std::alloc::Global;
 use std::marker::{Brand, PhantomData};
 

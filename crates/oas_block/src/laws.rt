@@ -1,6 +1,6 @@
 //! The law of blocks: it is the function's contract, and the body is empty.
 ghost use Rattle.std.specs.Prelude.{◌≡◌, ℕ, List};
-ghost use Rattle.oas_wide.specs.declared.blocks.BlockHead.{BlockHead};
+ghost use Rattle.oas_standard.specs.declared.blocks.BlockHead.{BlockHead};
 ghost use Rattle.oas_block.specs.Blocks.{Represents};
 
 /// A head with its bytes has only one data.

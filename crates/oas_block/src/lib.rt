@@ -39,4 +39,4 @@ pub use block::{Block, BlockEnd};
 pub use blocks::read_block;
 pub use faults::BlockFault;
 pub use oas_inflate::oas_inflated::{Inflated, InflatedSource};
-pub use oas_wide;
+pub use oas_standard;

@@ -34,18 +34,18 @@ module _ {W : Type 0} where
   one_fault o e = rw e refl
 
   module _ (calls : W → Calls) (o p : Outlet W) (same_writer : p.writer.ghost_name ≡ o.writer.ghost_name) (works : o.failed ≡ false) where
-    -- a byte more in the window
-    pub byte_kept : (byte : ℕ) → p.writer.now ≡ o.writer.now → p.window ≡ o.window ++ byte ∷ [] → p.taken ≡ o.taken → p.failed ≡ false → Puts (IsGiven calls) failures_of o (byte ∷ []) p
-    byte_kept byte same window taken still = record {
+    -- some bytes more in the window
+    pub bytes_kept : (bytes : List ℕ) → p.writer.now ≡ o.writer.now → p.window ≡ o.window ++ bytes → p.taken ≡ o.taken → p.failed ≡ false → Puts (IsGiven calls) failures_of o bytes p
+    bytes_kept bytes same window taken still = record {
       after = λ start before h. record {
         same_writer = same_writer ∙ h.same_writer;
         sent = h.sent;
-        kept = h.kept ++ byte ∷ [];
-        split = sym (append_assoc (unsent start) before (byte ∷ [])) ∙ ap (λ (t : List ℕ). t ++ byte ∷ []) h.split ∙ append_assoc h.sent h.kept (byte ∷ []);
+        kept = h.kept ++ bytes;
+        split = sym (append_assoc (unsent start) before bytes) ∙ ap (λ (t : List ℕ). t ++ bytes) h.split ∙ append_assoc h.sent h.kept bytes;
         took = rw same h.took;
         failures = omega (arith, ap (λ w. (calls w).failures) same, h.failures, no_fault o works, no_fault p still);
         counted = taken ∙ h.counted;
-        waits = λ w. ap (λ (t : List ℕ). t ++ byte ∷ []) (h.waits works ∙ unsent_works o works) ∙ sym window ∙ sym (unsent_works p still);
+        waits = λ w. ap (λ (t : List ℕ). t ++ bytes) (h.waits works ∙ unsent_works o works) ∙ sym window ∙ sym (unsent_works p still);
       };
       no_fewer = omega (arith, no_fault o works);
     }

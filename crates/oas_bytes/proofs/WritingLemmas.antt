@@ -41,3 +41,9 @@ module _ {K : Type 0} (given : K → List ℕ → K → Type 0) (failures : K �
   all_fails old mid new bytes i lt p q =
       let e : bytes ≡ take i bytes ++ ((get_or bytes i 0 ∷ []) ++ drop (suc i) bytes) = split_at bytes i lt in
       rw e (PutsPrefix-then old mid new (take i bytes) (get_or bytes i 0 ∷ []) (drop (suc i) bytes) p q)
+
+  -- a part of them, and then a fault before the next
+  pub rest_fails : (old mid new : K) (bytes : List ℕ) (i : ℕ) → Puts given failures old (take i bytes) mid → PutsPrefix given failures mid [] new → PutsPrefix given failures old bytes new
+  rest_fails old mid new bytes i p q =
+      let f : PutsPrefix given failures old (take i bytes ++ ([] ++ drop i bytes)) new = PutsPrefix-then old mid new (take i bytes) [] (drop i bytes) p q in
+      rw (take-append-drop) at f

@@ -1,5 +1,5 @@
 //! A sink over a device.
-ghost use Rattle.std.specs.Prelude.{◌≡◌, ◌≤◌, ◌-◌, ◌^◌, true, false, length, [], ◌∷◌, OnOk};
+ghost use Rattle.std.specs.Prelude.{◌≡◌, ◌<◌, ◌≤◌, ◌-◌, ◌^◌, true, false, length, take, [], ◌∷◌, IfOk, OnOk, OnErr};
 
 use crate::devices::Device;
 use crate::flushing::FlushRecord;
@@ -27,7 +27,7 @@ pub struct Outlet<'a, W> {
 
 impl<'a, W: Device> Outlet<'a, W> {
     ghost use Rattle.oas_bytes.specs.Outlets.{Opens, IsGiven, NoneWaits, IsSent, Answers, failures_of};
-    ghost use Rattle.oas_bytes.specs.Writing.{Writes};
+    ghost use Rattle.oas_bytes.specs.Writing.{Puts, PutsPrefix, Writes};
 
     /// An outlet that was given nothing.
     pub fn new(writer: &'a mut W) -> Outlet<'a, W>
@@ -101,6 +101,43 @@ impl<'a, W: Device> Outlet<'a, W> {
         }
     }
 
+    /// Puts as many of some bytes as the window has room for, and returns how many they are.
+    fn fill_up(&mut self, bytes: &[u8]) -> usize
+        requires works { self.old.failed ≡ false }
+        requires room { length self.old.window < 8192 }
+        requires some { 0 < length bytes.now }
+        ensures some { (0 < result) × (result ≤ length bytes.now) }
+        ensures puts { Puts (IsGiven W.calls) failures_of self.old (take result bytes.now) self.new }
+    {
+        let count = self.window.room().min(bytes.len());
+        self.window.extend(&bytes[..count]);
+        count
+    }
+
+    /// The same, where the window is sent first if it is full.
+    fn put_some(&mut self, bytes: &[u8]) -> Result<usize, SinkFault>
+        requires { 0 < length bytes.now }
+        ensures some { IfOk result (λ count. (0 < count) × (count ≤ length bytes.now)) }
+        ensures puts { IfOk result (λ count. Puts (IsGiven W.calls) failures_of self.old (take count bytes.now) self.new) }
+        ensures fails { OnErr result (PutsPrefix (IsGiven W.calls) failures_of self.old [] self.new) }
+    {
+        if self.window.is_full() {
+            self.spill()?;
+        }
+        Ok(self.fill_up(bytes))
+    }
+
+    /// Puts bytes for which the window has no room.
+    fn put_over(&mut self, bytes: &[u8]) -> Result<(), SinkFault>
+        ensures { Writes (IsGiven W.calls) failures_of self.old bytes.now result self.new }
+    {
+        let mut put = 0;
+        while put < bytes.len() {
+            put += self.put_some(&bytes[put..])?;
+        }
+        Ok(())
+    }
+
     /// Puts a byte where the window is full.
     #[cold]
     #[inline(never)]
@@ -135,5 +172,15 @@ impl<'a, W: Device> Sink for Outlet<'a, W> {
         }
         self.window.push(byte);
         Ok(())
+    }
+
+    /// Bytes for which the window has room are copied at once.
+    #[inline]
+    fn put_all(&mut self, bytes: &[u8]) -> Result<(), SinkFault> {
+        if bytes.len() < self.window.room() {
+            self.window.extend(bytes);
+            return Ok(());
+        }
+        self.put_over(bytes)
     }
 }

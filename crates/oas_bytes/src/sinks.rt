@@ -25,7 +25,7 @@ pub trait Sink {
     fn put(&mut self, byte: u8) -> Result<(), SinkFault>
         ensures { Writes given failures self.old (byte ∷ []) result self.new };
 
-    /// Takes bytes in order.
+    /// Takes bytes in order. A sink that can take many at once has a faster way.
     fn put_all(&mut self, bytes: &[u8]) -> Result<(), SinkFault>
         ensures { Writes given failures self.old bytes.now result self.new }
     {
@@ -71,6 +71,11 @@ impl Sink for Counter {
 
     fn put(&mut self, _byte: u8) -> Result<(), SinkFault> {
         self.count = self.count.saturating_add(1);
+        Ok(())
+    }
+
+    fn put_all(&mut self, bytes: &[u8]) -> Result<(), SinkFault> {
+        self.count = self.count.saturating_add(bytes.len() as u64);
         Ok(())
     }
 }

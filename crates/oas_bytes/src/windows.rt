@@ -1,5 +1,5 @@
 //! Bytes that are buffered for a writer.
-ghost use Rattle.std.specs.Prelude.{◌≡◌, ◌≤◌, ◌<◌, true, false, length, take, [], ◌∷◌, ◌++◌, IfOk, IfErr};
+ghost use Rattle.std.specs.Prelude.{◌≡◌, ◌≤◌, ◌<◌, ◌+◌, true, false, length, take, [], ◌∷◌, ◌++◌, IfOk, IfErr};
 ghost use Rattle.oas_bytes.specs.Devices.{TakesAll, FailsAfter};
 
 use crate::devices::Device;
@@ -62,6 +62,25 @@ impl Window {
     {
         self.bytes[self.held] = byte;
         self.held += 1;
+    }
+
+    /// How many more bytes there is room for.
+    #[inline]
+    pub(crate) fn room(&self) -> usize
+        ensures { result + length self.now ≡ 8192 }
+    {
+        SIZE - self.held
+    }
+
+    /// Adds bytes.
+    #[inline]
+    pub(crate) fn extend(&mut self, bytes: &[u8])
+        requires { length self.old + length bytes.now ≤ 8192 }
+        ensures { self.new ≡ self.old ++ bytes.now }
+    {
+        let end = self.held + bytes.len();
+        self.bytes[self.held..end].copy_from_slice(bytes);
+        self.held = end;
     }
 
     /// Drops the bytes.

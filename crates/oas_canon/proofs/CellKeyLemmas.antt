@@ -1,27 +1,18 @@
 -- The lines of the cells' keys, one after another, and how long they are.
-use Rattle.std.proofs.Common.{◌≡◌, ℕ, zero, suc, ◌+◌, ◌*◌, ◌<◌, ◌≤◌, ◌^◌, List, [], ◌∷◌, ◌++◌, length, drop, get_or, slice_get, flat_map, Some, length-append, refl, sym, ap, arith}
+use Rattle.std.proofs.Common.{◌≡◌, ℕ, ◌+◌, ◌*◌, ◌≤◌, ◌^◌, List, [], ◌∷◌, ◌++◌, length, flat_map, length-append, sym, ap, subst, arith}
 use Rattle.hex.proofs.HexLemmas.{length-encode_with}
 use Rattle.hex.specs.Hex.{lower_digits, encode_lower}
 use Rattle.sha2.proofs.Facts256.{length-sha256}
 use Rattle.oas_num.specs.Ratio.{Ratio}
 use Rattle.oas_num.specs.Writing.{Puts, PutsPrefix}
-use Rattle.oas_num.proofs.PuttingLemmas.{PutSoFar, item_put, item_fails, items_put}
-use Rattle.oas_layout.specs.declared.element.Element.{Element}
-use Rattle.oas_layout.specs.Meaning.{cells_weight}
-use Rattle.oas_layout.specs.Contents.{Cell, Contents, names, expanded, meaning_of, IsLayout}
-use Rattle.oas_judge.specs.oas_form.Alone.{alone, cell_at}
-use Rattle.oas_judge.specs.oas_form.Bytes.{canonical_bytes}
+use Rattle.oas_num.proofs.PuttingLemmas.{PutSoFar, begins, fails_at, all_put, ◌▸◌}
+use Rattle.oas_elements.specs.declared.element.Element.{Element}
+use Rattle.oas_elements.specs.Bag.{items}
+use Rattle.oas_elements.specs.Meaning.{cells_weight}
+use Rattle.oas_elements.specs.Contents.{Cell, Contents, expanded, meaning_of, IsLayout}
+use Rattle.oas_judge.specs.Bytes.{canonical_bytes}
+use Rattle.oas_judge.specs.Alone.{alone}
 use Rattle.oas_canon.specs.CellKeys.{cell_key, named_key, cell_key_line, cell_key_lines}
-
--- the name of cell i
-pub name_at : (cs : List Cell) (i : ℕ) (name : List ℕ) → slice_get (names cs) i ≡ Some name → (get_or (expanded cs) i ([], [])).0 ≡ name
-name_at [] i name p = let no : ⊥ = cc in absurd no
-name_at (c ∷ cs) zero name p = cc
-name_at (c ∷ cs) (suc i) name p = name_at cs i name p
-
-length-expanded : (cs : List Cell) → length (expanded cs) ≡ length cs
-length-expanded [] = refl
-length-expanded (c ∷ cs) = ap suc (length-expanded cs)
 
 -- the line, as its parts are put
 pub line_is : (key text name : List ℕ) → text ≡ encode_lower key → named_key key name ≡ text ++ ((32 ∷ 32 ∷ []) ++ (name ++ (10 ∷ [])))
@@ -32,20 +23,28 @@ named_is unit c key name k n = λ i. named_key (sym k i) (n i)
 
 -- ---- one line after another
 
-module _ {K : Type 0} {given : K → List ℕ → K → Type 0} {failures : K → ℕ} {whole : List ℕ} {old mid : K} (l : Contents) (i : ℕ) where
-  module _ (lt : i < length l.cells) (p : PutSoFar given failures whole (flat_map (cell_key_line l.unit) (drop i (expanded l.cells))) old mid) where
-    below : i < length (expanded l.cells)
-    below = omega (arith, lt, length-expanded l.cells)
+module _ {K : Type 0} (given : K → List ℕ → K → Type 0) (failures : K → ℕ) (l : Contents) where
+  -- the lines of some cells were put, and these are left
+  abbrev pub LinesAfter : List Cell → K → K → Type 0
+  LinesAfter left old now = PutSoFar given failures (cell_key_lines (meaning_of l)) (flat_map (cell_key_line l.unit) (expanded left)) old now
 
-    pub line_put : {new : K} → Puts given failures mid (cell_key_line l.unit (cell_at l i)) new →
-        PutSoFar given failures whole (flat_map (cell_key_line l.unit) (drop (i + 1) (expanded l.cells))) old new
-    line_put {new} q = item_put (cell_key_line l.unit) (expanded l.cells) i ([], []) below p q
+  pub lines_begin : (left : List Cell) (s : K) → left ≡ l.cells → LinesAfter left s s
+  lines_begin left s is = subst (λ (cs : List Cell). LinesAfter cs s s) (sym is) (begins (cell_key_lines (meaning_of l)) s)
 
-    pub line_fails : {new : K} → PutsPrefix given failures mid (cell_key_line l.unit (cell_at l i)) new → PutsPrefix given failures old whole new
-    line_fails {new} q = item_fails (cell_key_line l.unit) (expanded l.cells) i ([], []) below p q
+  pub lines_end : (left : List Cell) {old now : K} → LinesAfter left old now → left ≡ [] → Puts given failures old (cell_key_lines (meaning_of l)) now
+  lines_end left {old} {now} s none = all_put (subst (λ (cs : List Cell). LinesAfter cs old now) none s)
 
-  pub lines_put : length l.cells ≤ i → PutSoFar given failures whole (flat_map (cell_key_line l.unit) (drop i (expanded l.cells))) old mid → Puts given failures old whole mid
-  lines_put le p = items_put (cell_key_line l.unit) (expanded l.cells) i (omega (arith, le, length-expanded l.cells)) p
+module _ {K : Type 0} {given : K → List ℕ → K → Type 0} {failures : K → ℕ} {old mid : K} (l : Contents) (before after : List Cell) (c : Cell) (is : before ≡ c ∷ after)
+    (left : PutSoFar given failures (cell_key_lines (meaning_of l)) (flat_map (cell_key_line l.unit) (expanded before)) old mid) where
+  split : PutSoFar given failures (cell_key_lines (meaning_of l)) (cell_key_line l.unit (c.0, items c.1) ++ flat_map (cell_key_line l.unit) (expanded after)) old mid
+  split = subst (λ (cs : List Cell). PutSoFar given failures (cell_key_lines (meaning_of l)) (flat_map (cell_key_line l.unit) (expanded cs)) old mid) is left
+
+  pub line_put : {new : K} → Puts given failures mid (cell_key_line l.unit (c.0, items c.1)) new
+      → PutSoFar given failures (cell_key_lines (meaning_of l)) (flat_map (cell_key_line l.unit) (expanded after)) old new
+  line_put q = split ▸ q
+
+  pub line_fails : {new : K} → PutsPrefix given failures mid (cell_key_line l.unit (c.0, items c.1)) new → PutsPrefix given failures old (cell_key_lines (meaning_of l)) new
+  line_fails q = fails_at _ split q
 
 -- ---- their length
 

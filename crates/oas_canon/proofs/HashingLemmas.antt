@@ -2,8 +2,8 @@
 use Rattle.std.proofs.Common.{◌≡◌, ℕ, List, [], ◌∷◌, ◌++◌, Result, Ok, Err, sym, append_assoc, append-nil, arith}
 use Rattle.sha2.specs.Hashers.{Holds256}
 use Rattle.oas_num.specs.SinkFault.{SinkFault}
-use Rattle.oas_num.specs.Writing.{Puts}
-use Rattle.oas_judge.specs.oas_form.Putting.{Counts}
+use Rattle.oas_num.specs.Writing.{Puts, Writes}
+use Rattle.oas_judge.specs.Putting.{Counts}
 use Rattle.oas_canon.specs.declared.hashing.Hasher.{Hasher}
 use Rattle.oas_canon.specs.Hashing.{HasTaken, Hashes}
 use Rattle.oas_canon.specs.Laws.HashingLaws.{Hashes-none}
@@ -23,3 +23,8 @@ put_more old mid new byte keeps held = record {
 pub hashed : (start end : Hasher) (all : List ℕ) (r : Result ℕ SinkFault) → Counts Hashes (λ _. 0) start all r end → HasTaken start [] → HasTaken end all
 hashed start end all (Ok n) p h = p.puts.after start [] (Hashes-none start) [] h
 hashed start end all (Err fault) p h = absurd (omega (arith, p.failed))
+
+-- so of any bytes
+pub hashed_all : (start end : Hasher) (all : List ℕ) (r : Result Unit SinkFault) → Writes Hashes (λ _. 0) start all r end → HasTaken start [] → HasTaken end all
+hashed_all start end all (Ok done) p h = p.after start [] (Hashes-none start) [] h
+hashed_all start end all (Err fault) p h = absurd (omega (arith, p.failed))

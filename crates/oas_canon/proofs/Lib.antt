@@ -1,7 +1,8 @@
+pub use Rattle.oas_judge.proofs.Forms
+pub use Rattle.oas_judge.proofs.Held
+pub use Rattle.oas_judge.proofs.Judged
+pub use Rattle.oas_judge.proofs.Written
 mod RekeyLemmas
 mod HashingLemmas
 mod CellKeyLemmas
-mod RunKeyLemmas
 pub mod Whole
-pub use Rattle.oas_judge.proofs.oas_file_proofs
-pub use Rattle.oas_judge.proofs.oas_form_proofs

@@ -4,13 +4,13 @@ use Rattle.oas_num.specs.Devices.{Calls, TakesAll}
 use Rattle.oas_num.specs.declared.refusals.Refusal.{Refusal}
 use Rattle.oas_num.specs.Script.{Script, Rest, Gave}
 use Rattle.oas_num.specs.Written.{IsWritten, IsCutOff}
-use Rattle.oas_layout.specs.declared.limits.Limits.{Limits}
-use Rattle.oas_layout.specs.declared.profile.Profile.TheVariants.{One, Two}
-use Rattle.oas_layout.specs.Contents.{Contents, meaning_of}
-use Rattle.oas_judge.specs.oas_form.Bytes.{canonical_bytes}
-use Rattle.oas_judge.specs.oas_form.Canonical.{CanonicalForm, IsCanonicalOf}
-use Rattle.oas_judge.proofs.oas_form_proofs.Forms.{canonical_again}
-use Rattle.oas_judge.proofs.oas_form_proofs.Rekeying.{within}
+use Rattle.oas_elements.specs.declared.limits.Limits.{Limits}
+use Rattle.oas_elements.specs.declared.profile.Profile.TheVariants.{One, Two}
+use Rattle.oas_elements.specs.Contents.{Contents, meaning_of}
+use Rattle.oas_judge.specs.Bytes.{canonical_bytes}
+use Rattle.oas_judge.specs.Canonical.{CanonicalForm, IsCanonicalOf}
+use Rattle.oas_judge.proofs.Forms.{canonical_again}
+use Rattle.oas_judge.proofs.Rekeying.{within}
 use Rattle.oas_judge.specs.Judged.{IsReadAndJudged}
 use Rattle.oas_canon.specs.declared.rekeying.Rekeyed.{Rekeyed}
 use Rattle.oas_canon.specs.declared.rekeying.Rekeyed.TheVariants.{Done, NotProfile1}

@@ -7,19 +7,25 @@ use Rattle.oas_num.specs.declared.refusals.Why.{Why}
 use Rattle.oas_num.specs.declared.refusals.Why.TheVariants.{Truncated, Read, InputTooLong, Write, Memory}
 use Rattle.oas_num.specs.declared.refusals.Refusal.{Refusal}
 use Rattle.oas_num.specs.Script.{Script, Rest, Gave, NoneLeft}
-use Rattle.oas_layout.specs.declared.limits.Limits.{Limits}
-use Rattle.oas_layout.specs.declared.profile.Profile.{Profile}
-use Rattle.oas_layout.specs.Meaning.{SameLayout}
-use Rattle.oas_layout.specs.Contents.{Contents, IsLayout, meaning_of}
-use Rattle.oas_layout.proofs.LawProofs.{symmetric, transitive}
-use Rattle.oas_judge.specs.oas_file.Acceptance.{Accepted}
-use Rattle.oas_judge.specs.oas_file.Reading.{decides, IsRead, IsRefused}
-use Rattle.oas_judge.specs.oas_form.Bytes.{canonical_bytes}
-use Rattle.oas_judge.specs.oas_form.Canonical.{CanonicalForm, IsCanonicalOf}
+use Rattle.oas_elements.specs.declared.limits.Limits.{Limits}
+use Rattle.oas_elements.specs.declared.profile.Profile.{Profile}
+use Rattle.oas_elements.specs.Meaning.{SameLayout}
+use Rattle.oas_elements.specs.Contents.{Contents, IsLayout, meaning_of}
+use Rattle.oas_judge.specs.Acceptance.{Accepted}
+use Rattle.oas_judge.specs.Reading.{decides, IsRead, IsRefused}
+use Rattle.oas_judge.specs.Bytes.{canonical_bytes}
+use Rattle.oas_judge.specs.Canonical.{CanonicalForm, IsCanonicalOf}
 use Rattle.oas_num.specs.Written.{IsWritten, IsCutOff}
-use Rattle.oas_judge.proofs.oas_form_proofs.Written.{canonical_form}
+use Rattle.oas_judge.proofs.Forms.{forms_equal}
+use Rattle.oas_judge.proofs.Rekeying.{own}
+use Rattle.oas_judge.proofs.Written.{canonical_form}
+use Rattle.oas_judge.specs.FormLaws.{form_is_accepted}
+use Rattle.oas_judge.specs.Given.{ReadsGiven}
+use Rattle.oas_judge.specs.declared.given.Given.{Given}
+use Rattle.oas_judge.specs.declared.given.Given.TheVariants.{Canonical, Layout}
 use Rattle.oas_judge.specs.Judged.{IsJudged as IsJudgedBy}
 use Rattle.oas_judge.specs.Kept.{RefusesKept}
+use Rattle.oas_canon.specs.Given.{form_of, AreAlike}
 use Rattle.oas_canon.specs.Run.{IsTaken, IsDone, IsCut, IsKeyed, IsJudged, IsCompared, IsDecided, IsWithinSource, Exactly}
 
 module _ {limits : Limits} {profile : Profile} {old new : Script} {l : Contents} (read : IsRead limits profile old l new) where
@@ -33,28 +39,44 @@ module _ {limits : Limits} {profile : Profile} {old new : Script} {l : Contents}
   pub is_form : IsLayout l → IsCanonicalOf limits profile read.bytes (canonical_bytes (meaning_of l))
   is_form held = record { form = form held; source = read.meaning; target = meaning_of l; means = read.means; becomes = (canonical_form l held).1; same = read.same }
 
-  pub done : {W : Type 0} (calls : W → Calls) (before after : W) (r : Result ℕ Refusal) → IsLayout l →
-      IfOk r (IsWritten calls before (canonical_bytes (meaning_of l)) after) → IfOk r (λ n. IsDone limits profile old new (calls before) (calls after) n)
-  done calls before after (Ok n) held written =
-      record {
-        bytes = read.bytes;
-        taken = taken;
-        canonical = canonical_bytes (meaning_of l);
-        is = is_form held;
-        count = written.count_is;
-        written = written.took;
-      }
-  done calls before after (Err refusal) held written = tt
+-- ---- a file that was read, by its bytes or by its layout
 
-  pub cut : {W : Type 0} (calls : W → Calls) (before after : W) (r : Result ℕ Refusal) → IsLayout l →
-      IfErr r (IsCutOff calls before (canonical_bytes (meaning_of l)) after) →
+-- an accepted file was taken, and this is its canonical form
+pub record HasForm (limits : Limits) (profile : Profile) (old : Script) (canonical : List ℕ) (new : Script) : Type 0 where
+  pub bytes : List ℕ
+  pub taken : IsTaken limits old bytes new
+  pub is : IsCanonicalOf limits profile bytes canonical
+
+pub has_form : {limits : Limits} {profile : Profile} {old new : Script} (given : Given) → ReadsGiven limits profile old (Ok given) new → HasForm limits profile old (form_of given) new
+has_form {limits = limits} {profile = profile} (Canonical bytes) given = record {
+  bytes = bytes.items;
+  taken = record { takes = given.takes; ended = given.ended; accepted = form_is_accepted limits profile bytes.items given.form };
+  is = own limits profile bytes.items given.form;
+}
+has_form (Layout l) read = record { bytes = read.bytes; taken = taken read; is = is_form read read.layout }
+
+module _ {limits : Limits} {profile : Profile} {old new : Script} {canonical : List ℕ} (got : HasForm limits profile old canonical new) where
+  pub done : {W : Type 0} (calls : W → Calls) (before after : W) (r : Result ℕ Refusal) →
+      IfOk r (IsWritten calls before canonical after) → IfOk r (λ n. IsDone limits profile old new (calls before) (calls after) n)
+  done calls before after (Ok n) written = record {
+    bytes = got.bytes;
+    taken = got.taken;
+    canonical = canonical;
+    is = got.is;
+    count = written.count_is;
+    written = written.took;
+  }
+  done calls before after (Err refusal) written = tt
+
+  pub cut : {W : Type 0} (calls : W → Calls) (before after : W) (r : Result ℕ Refusal) →
+      IfErr r (IsCutOff calls before canonical after) →
       IfErr r (λ refusal. refusal.why ≡ Write → IsCut limits profile old new (calls before) (calls after) refusal.at)
-  cut calls before after (Ok n) held h = tt
-  cut calls before after (Err refusal) held h = λ _. record {
-    bytes = read.bytes;
-    taken = taken;
-    canonical = canonical_bytes (meaning_of l);
-    is = is_form held;
+  cut calls before after (Ok n) h = tt
+  cut calls before after (Err refusal) h = λ _. record {
+    bytes = got.bytes;
+    taken = got.taken;
+    canonical = canonical;
+    is = got.is;
     front = h.front;
     back = h.back;
     joined = h.joined;
@@ -62,8 +84,8 @@ module _ {limits : Limits} {profile : Profile} {old new : Script} {l : Contents}
     place = h.place;
   }
 
-  pub keyed : (digest : List ℕ) → IsLayout l → digest ≡ sha256 (canonical_bytes (meaning_of l)) → IsKeyed limits profile old new digest
-  keyed digest held is = record { bytes = read.bytes; taken = taken; canonical = canonical_bytes (meaning_of l); is = is_form held; hashed = is }
+  pub keyed : (digest : List ℕ) → digest ≡ sha256 canonical → IsKeyed limits profile old new digest
+  keyed digest is = record { bytes = got.bytes; taken = got.taken; canonical = canonical; is = got.is; hashed = is }
 
 -- what is cut off is the writer's fault
 pub unwritten : {W : Type 0} (calls : W → Calls) (before after : W) (bytes : List ℕ) (Other : Refusal → Type 0) (r : Result ℕ Refusal) →
@@ -78,31 +100,44 @@ judged j = record { bytes = j.bytes; taken = record { takes = j.takes; ended = j
 
 -- ---- two files
 
--- the result for the layouts is that for the meanings
-pub compared : {limits : Limits} {profile : Profile} {old new mid last : Script} {l k : Contents} {same : Bool} → IsRead limits profile old l new →
-    IsRead limits profile mid k last → (IsTrue same ↔ SameLayout l.profile (meaning_of l) (meaning_of k)) → IsCompared limits profile old new mid last same
-compared {profile = profile} {l = l} {k = k} first second h =
-    let one = first.meaning in
-    let other = second.meaning in
+-- two files mean the same layout exactly if they have one canonical form
+pub compared : {limits : Limits} {profile : Profile} {old new mid last : Script} {c e : List ℕ} {same : Bool} → HasForm limits profile old c new →
+    HasForm limits profile mid e last → (IsTrue same ↔ (c ≡ e)) → IsCompared limits profile old new mid last same
+compared {limits = limits} {profile = profile} {c = c} {e = e} first second h =
+    let exactly = forms_equal limits limits profile first.bytes second.bytes c e first.is.source second.is.source first.is second.is first.is.means second.is.means in
     record {
       first = first.bytes;
       second = second.bytes;
-      taken_first = taken first;
-      taken_second = taken second;
-      one = one;
-      other = other;
-      means_one = first.means;
-      means_other = second.means;
-      answer = (
-        λ t.
-            let s : SameLayout profile (meaning_of l) (meaning_of k) = subst (λ (p : Profile). SameLayout p (meaning_of l) (meaning_of k)) first.by (h.0 t) in
-            transitive profile one (meaning_of l) other first.same (transitive profile (meaning_of l) (meaning_of k) other s (symmetric profile other (meaning_of k) second.same)),
-        λ s.
-            let t : SameLayout profile (meaning_of l) (meaning_of k) =
-            transitive profile (meaning_of l) one (meaning_of k) (symmetric profile one (meaning_of l) first.same) (transitive profile one other (meaning_of k) s second.same) in
-            h.1 (subst (λ (p : Profile). SameLayout p (meaning_of l) (meaning_of k)) (sym first.by) t),
-      );
+      taken_first = first.taken;
+      taken_second = second.taken;
+      one = first.is.source;
+      other = second.is.source;
+      means_one = first.is.means;
+      means_other = second.is.means;
+      answer = (λ t. exactly.1 (h.0 t), λ s. h.1 (exactly.0 s));
     }
+
+-- layouts are the same exactly if their canonical bytes are equal
+layouts_alike : (l k : Contents) → IsLayout l → IsLayout k → l.profile ≡ k.profile →
+    SameLayout l.profile (meaning_of l) (meaning_of k) ↔ (canonical_bytes (meaning_of l) ≡ canonical_bytes (meaning_of k))
+layouts_alike l k held also by =
+    let one = canonical_form l held in
+    let other = canonical_form k also in
+    let b = canonical_bytes (meaning_of l) in
+    let d = canonical_bytes (meaning_of k) in
+    forms_equal l.limits k.limits l.profile b d b d (meaning_of l) (meaning_of k) (own l.limits l.profile b one.0)
+    (own k.limits l.profile d (subst (λ (p : Profile). CanonicalForm k.limits p d) (sym by) other.0)) one.1 other.1
+
+pub layouts_form : (l k : Contents) (same : Bool) → IsLayout l → IsLayout k → l.profile ≡ k.profile → (IsTrue same ↔ SameLayout l.profile (meaning_of l) (meaning_of k)) →
+    IsTrue same ↔ (canonical_bytes (meaning_of l) ≡ canonical_bytes (meaning_of k))
+layouts_form l k same held also by h = let alike = layouts_alike l k held also by in (λ t. alike.0 (h.0 t), λ e. h.1 (alike.1 e))
+
+-- two that were read by one profile
+pub alike : (limits : Limits) (profile : Profile) (old new mid last : Script) (one other : Given) → ReadsGiven limits profile old (Ok one) new → ReadsGiven limits profile mid (Ok other) last → AreAlike one other
+alike limits profile old new mid last (Canonical a) (Canonical b) first second = tt
+alike limits profile old new mid last (Canonical a) (Layout k) first second = tt
+alike limits profile old new mid last (Layout l) (Canonical b) first second = tt
+alike limits profile old new mid last (Layout l) (Layout k) first second = (first.layout, second.layout, first.by ∙ sym second.by)
 
 -- ---- for known bytes
 
@@ -163,10 +198,10 @@ exactly_unwritten T limits old new refusal e = by_rest old.rest where
   by_rest None w z = tt
   by_rest (Some rest) w z = inl e
 
-pub exactly_written : {limits : Limits} {profile : Profile} {old new : Script} {l : Contents} {W : Type 0} (calls : W → Calls) (before after : W)
-    (r : Result ℕ Refusal) → IsRead limits profile old l new → IfErr r (IsCutOff calls before (canonical_bytes (meaning_of l)) after) → Exactly limits old r new
-exactly_written calls before after (Ok n) read h = exactly_taken n (taken read)
-exactly_written {limits = limits} {old = old} {new = new} calls before after (Err refusal) read h = exactly_unwritten ℕ limits old new refusal h.reason
+pub exactly_written : {limits : Limits} {profile : Profile} {old new : Script} {canonical : List ℕ} {W : Type 0} (calls : W → Calls) (before after : W)
+    (r : Result ℕ Refusal) → HasForm limits profile old canonical new → IfErr r (IsCutOff calls before canonical after) → Exactly limits old r new
+exactly_written calls before after (Ok n) got h = exactly_taken n got.taken
+exactly_written {limits = limits} {old = old} {new = new} calls before after (Err refusal) got h = exactly_unwritten ℕ limits old new refusal h.reason
 
 -- ---- what a judge returns
 

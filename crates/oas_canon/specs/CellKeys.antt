@@ -3,10 +3,10 @@ use Rattle.std.specs.Prelude.{ℕ, List, [], ◌∷◌, ◌++◌, flat_map}
 use Rattle.hex.specs.Hex.{encode_lower}
 use Rattle.sha2.specs.Sha256.{sha256}
 use Rattle.oas_num.specs.Ratio.{Ratio}
-use Rattle.oas_layout.specs.declared.element.Element.{Element}
-use Rattle.oas_layout.specs.Meaning.{Meaning}
-use Rattle.oas_judge.specs.oas_form.Alone.{alone}
-use Rattle.oas_judge.specs.oas_form.Bytes.{canonical_bytes}
+use Rattle.oas_elements.specs.declared.element.Element.{Element}
+use Rattle.oas_elements.specs.Meaning.{Meaning}
+use Rattle.oas_judge.specs.Bytes.{canonical_bytes}
+use Rattle.oas_judge.specs.Alone.{alone}
 
 -- the SHA-256 of the canonical file that has this unit and this cell alone
 abbrev pub cell_key : Ratio → List ℕ × List Element → List ℕ

@@ -1,7 +1,7 @@
 -- What a source is before a run.
-use Rattle.std.specs.Prelude.{◌≡◌, ℕ, List, [], None}
+use Rattle.std.specs.Prelude.{◌≡◌, [], None}
 use Rattle.oas_num.specs.Script.{Script}
-use Rattle.oas_layout.specs.declared.limits.Limits.{Limits}
+use Rattle.oas_elements.specs.declared.limits.Limits.{Limits}
 
 -- it gave nothing yet, did not fail, and is to give as many bytes as the limits allow at most
 pub record IsOpened (limits : Limits) (s : Script) : Type 0 where

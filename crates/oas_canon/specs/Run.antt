@@ -5,11 +5,11 @@ use Rattle.sha2.specs.Sha256.{sha256}
 use Rattle.oas_num.specs.declared.refusals.Refusal.{Refusal}
 use Rattle.oas_num.specs.declared.refusals.Why.TheVariants.{Write, Memory}
 use Rattle.oas_num.specs.Script.{Script, Rest, Consumed, IsAtEnd}
-use Rattle.oas_layout.specs.declared.limits.Limits.{Limits}
-use Rattle.oas_layout.specs.declared.profile.Profile.{Profile}
-use Rattle.oas_layout.specs.Meaning.{Meaning, SameLayout}
-use Rattle.oas_judge.specs.oas_file.Acceptance.{Accepted, Means}
-use Rattle.oas_judge.specs.oas_form.Canonical.{CanonicalForm, IsCanonicalOf}
+use Rattle.oas_elements.specs.declared.limits.Limits.{Limits}
+use Rattle.oas_elements.specs.declared.profile.Profile.{Profile}
+use Rattle.oas_elements.specs.Meaning.{Meaning, SameLayout}
+use Rattle.oas_judge.specs.Acceptance.{Accepted, Means}
+use Rattle.oas_judge.specs.Canonical.{CanonicalForm, IsCanonicalOf}
 use Rattle.oas_canon.specs.declared.sameness.Which.{Which}
 use Rattle.oas_canon.specs.declared.sameness.Which.TheVariants.{First, Second}
 

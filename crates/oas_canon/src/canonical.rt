@@ -1,15 +1,15 @@
 //! From a source to a writer: the canonical file of what was read.
 ghost use Rattle.std.specs.Prelude.{◌≡◌, ◌⊎◌, IfOk, IfErr};
 ghost use Rattle.oas_num.specs.declared.refusals.Why.TheVariants.{Write as NotWritten};
-ghost use Rattle.oas_judge.specs.oas_file.Deciding.{IsReasoned};
-ghost use Rattle.oas_judge.specs.oas_file.Reading.{IsRefused, IsPlaced};
+ghost use Rattle.oas_judge.specs.Deciding.{IsReasoned};
+ghost use Rattle.oas_judge.specs.Reading.{IsRefused, IsPlaced};
 ghost use Rattle.oas_canon.specs.Run.{IsDone, IsCut, Exactly};
 
-use crate::profile::{ByProfile, PROFILE};
-use oas_judge::oas_runs::read_compact;
-use oas_layout::Limits;
+use crate::given::write_given;
+use crate::profile::PROFILE;
+use oas_elements::Limits;
+use oas_judge::read_given;
 use oas_num::{Device, Refusal, Source};
-use oas_run_form::write_compact;
 use std::alloc::Global;
 
 /// Writes the canonical file of what a source gives, and returns how many bytes it has.
@@ -32,6 +32,6 @@ pub fn canonicalize<S: Source, W: Device>(
     ensures cut { IfErr result (λ refusal. refusal.why ≡ NotWritten → IsCut limits PROFILE (S.script from.old) (S.script from.new) (W.calls to.old) (W.calls to.new) refusal.at) }
     ensures exactly { Exactly limits (S.script from.old) result (S.script from.new) }
 {
-    let layout = read_compact::<S, ByProfile>(alloc, from, limits)?;
-    write_compact(&layout, to)
+    let given = read_given(alloc, from, limits, PROFILE)?;
+    write_given(&given, to)
 }

@@ -1,19 +1,17 @@
 //! The keys of a layout and of its cells.
-ghost use Rattle.std.specs.Prelude.{◌≡◌, ◌*◌, ◌^◌, ◌<◌, ◌≤◌, length, IfErr, IfOk, OnOk};
-ghost use Rattle.oas_num.specs.Outlets.{IsGiven, IsSent, failures_of};
+ghost use Rattle.std.specs.Prelude.{◌≡◌, ◌*◌, ◌^◌, ◌≤◌, length, IfErr, IfOk};
 ghost use Rattle.oas_num.specs.Writing.{Writes};
 ghost use Rattle.oas_num.specs.Written.{IsWritten, IsCutOff};
-ghost use Rattle.oas_layout.specs.Contents.{meaning_of};
+ghost use Rattle.oas_elements.specs.Bag.{items};
+ghost use Rattle.oas_elements.specs.Contents.{meaning_of};
 ghost use Rattle.sha2.specs.Sha256.{sha256};
-ghost use Rattle.oas_judge.specs.oas_form.Alone.{cell_at};
-ghost use Rattle.oas_judge.specs.oas_form.Bytes.{canonical_bytes};
+ghost use Rattle.oas_judge.specs.Bytes.{canonical_bytes};
 ghost use Rattle.oas_canon.specs.CellKeys.{cell_key, cell_key_line, cell_key_lines};
 
 use crate::hashing::Hasher;
 use crate::named_keys::put_named_key;
-use oas_judge::oas_form::{put_canonical, put_cell_alone};
-use oas_layout::Layout;
-use oas_num::{Device, Outlet, Refusal, Sink, SinkFault, Why};
+use oas_judge::{Elements, Layout, put_canonical, put_cell_alone};
+use oas_num::{Content, Device, Fraction, Refusal, Sink, SinkFault, write_content};
 
 /// The key of a layout: the SHA-256 of its canonical file. That isn't held or written anywhere, and it takes no memory.
 pub fn layout_key(layout: &Layout) -> [u8; 32]
@@ -24,26 +22,25 @@ pub fn layout_key(layout: &Layout) -> [u8; 32]
     hasher.finish()
 }
 
-/// The key of the cell at this place: the SHA-256 of the canonical file that has the layout's unit and this cell alone.
-pub fn cell_key(layout: &Layout, cell: usize) -> [u8; 32]
-    requires { cell < length layout.now.cells }
-    ensures { result ≡ cell_key layout.now.unit (cell_at layout.now cell) }
+/// The key of a cell, by its name and its elements: the SHA-256 of the canonical file that has this unit and this cell alone.
+pub fn cell_key(unit: Fraction, name: &[u8], elements: Elements<'_>) -> [u8; 32]
+    ensures { result ≡ cell_key unit (name.now, items elements.entry) }
 {
-    // `Layout::cells` says what holds for each layout.
-    let _ = layout.cell_count();
     let mut hasher = Hasher::new();
-    let _ = put_cell_alone(layout, cell, &mut hasher);
+    let _ = put_cell_alone(unit, name, elements, &mut hasher);
     hasher.finish()
 }
 
 /// Puts the line of a cell's key.
-fn put_line<K: Sink>(sink: &mut K, layout: &Layout, cell: usize) -> Result<(), SinkFault>
-    requires { cell < length layout.now.cells }
-    ensures { Writes K.given K.failures sink.old
-        (cell_key_line layout.now.unit (cell_at layout.now cell)) result sink.new }
+fn put_line<K: Sink>(
+    sink: &mut K,
+    unit: Fraction,
+    name: &[u8],
+    elements: Elements<'_>,
+) -> Result<(), SinkFault>
+    ensures { Writes K.given K.failures sink.old (cell_key_line unit (name.now, items elements.entry)) result sink.new }
 {
-    let key = cell_key(layout, cell);
-    put_named_key(sink, &key, layout.cell_name(cell).as_bytes())
+    put_named_key(sink, &cell_key(unit, name, elements), name)
 }
 
 /// Puts a line `HEX  CELL` for each cell of a layout into a sink, as [`write_cell_keys`] writes it.
@@ -51,21 +48,28 @@ pub fn put_cell_keys<K: Sink>(layout: &Layout, sink: &mut K) -> Result<(), SinkF
     ensures writes { Writes K.given K.failures sink.old (cell_key_lines (meaning_of layout.now)) result sink.new }
     ensures short { length (cell_key_lines (meaning_of layout.now)) ≤ 67 * 2 ^ 30 }
 {
-    let cells = layout.cell_count();
-    for cell in 0..cells {
-        put_line(sink, layout, cell)?;
+    let unit = layout.unit();
+    for (name, elements) in layout.cells() {
+        put_line(sink, unit, name.as_bytes(), elements)?;
     }
     Ok(())
 }
 
-/// Puts these lines into an outlet, and sends all of them to the writer.
-fn put_and_close<W: Device>(layout: &Layout, outlet: &mut Outlet<'_, W>) -> Result<(), SinkFault>
-    ensures writes { Writes (IsGiven W.calls) failures_of outlet.old (cell_key_lines (meaning_of layout.now)) result outlet.new }
-    ensures all { OnOk result (IsSent outlet.new) }
-    ensures short { length (cell_key_lines (meaning_of layout.now)) ≤ 67 * 2 ^ 30 }
-{
-    put_cell_keys(layout, outlet)?;
-    outlet.close()
+/// These lines, as content.
+#[derive(Drop)]
+struct CellKeys<'a> {
+    layout: &'a Layout,
+}
+
+impl Content for CellKeys<'_> {
+    ghost use Rattle.oas_elements.specs.Contents.{meaning_of};
+    ghost use Rattle.oas_canon.specs.CellKeys.{cell_key_lines};
+
+    ghost bytes = { λ content. cell_key_lines (meaning_of content.layout.now) };
+
+    fn put_into<K: Sink>(&self, sink: &mut K) -> Result<(), SinkFault> {
+        put_cell_keys(self.layout, sink)
+    }
 }
 
 /// Writes a line `HEX  CELL` for each cell of a layout, by ascending names, and returns how many bytes that is. HEX is the
@@ -77,12 +81,5 @@ pub fn write_cell_keys<W: Device>(layout: &Layout, writer: &mut W) -> Result<u64
     ensures written { IfOk result (IsWritten W.calls writer.old (cell_key_lines (meaning_of layout.now)) writer.new) }
     ensures refused { IfErr result (IsCutOff W.calls writer.old (cell_key_lines (meaning_of layout.now)) writer.new) }
 {
-    let mut outlet = Outlet::new(writer);
-    match put_and_close(layout, &mut outlet) {
-        Ok(()) => Ok(outlet.taken()),
-        Err(_) => Err(Refusal {
-            at: outlet.taken(),
-            why: Why::Write,
-        }),
-    }
+    write_content(&CellKeys { layout }, writer)
 }

@@ -1,11 +1,11 @@
 //! Whether a file is canonical.
 ghost use Rattle.std.specs.Prelude.{◌⊎◌, IfOk, IfErr};
-ghost use Rattle.oas_judge.specs.oas_file.Deciding.{HasNoMemory, IsReasoned};
-ghost use Rattle.oas_judge.specs.oas_file.Reading.{IsRefused, IsPlaced};
+ghost use Rattle.oas_judge.specs.Deciding.{HasNoMemory, IsReasoned};
+ghost use Rattle.oas_judge.specs.Reading.{IsRefused, IsPlaced};
 ghost use Rattle.oas_canon.specs.Run.{IsJudged, Exactly};
 
 use crate::profile::PROFILE;
-use oas_layout::Limits;
+use oas_elements::Limits;
 use oas_num::{Refusal, Source};
 use std::alloc::Global;
 

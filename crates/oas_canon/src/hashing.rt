@@ -1,5 +1,5 @@
 //! A sink that hashes.
-ghost use Rattle.std.specs.Prelude.{◌≡◌, ℕ, List, [], ◌∷◌, ◌≤◌, ◌<◌};
+ghost use Rattle.std.specs.Prelude.{◌≡◌, ℕ, List, [], ◌∷◌, ◌+◌, ◌≤◌, ◌<◌, length};
 ghost use Rattle.sha2.specs.Sha256.{sha256};
 ghost use Rattle.sha2.specs.Hashers.{Holds256};
 
@@ -53,6 +53,25 @@ impl Hasher {
         self.held += 1;
     }
 
+    /// Puts bytes into the window.
+    #[inline]
+    fn hold_all(&mut self, bytes: &[u8])
+        requires { self.old.held + length bytes.now ≤ 4096 }
+        ensures { Hashes self.old bytes.now self.new }
+    {
+        let end = self.held + bytes.len();
+        self.window[self.held..end].copy_from_slice(bytes);
+        self.held = end;
+    }
+
+    /// Hashes what the window holds, and then bytes for which it has no room.
+    fn hash_all(&mut self, bytes: &[u8])
+        ensures { Hashes self.old bytes.now self.new }
+    {
+        self.hash_window();
+        self.hasher.update(bytes);
+    }
+
     /// The digest of all that it was given.
     pub(crate) fn finish(mut self) -> [u8; 32]
         ensures { (m : List ℕ) → HasTaken self m → result ≡ sha256 m }
@@ -78,6 +97,17 @@ impl Sink for Hasher {
             self.hash_window();
         }
         self.hold(byte);
+        Ok(())
+    }
+
+    /// Bytes for which the window has room are copied at once.
+    #[inline]
+    fn put_all(&mut self, bytes: &[u8]) -> Result<(), SinkFault> {
+        if bytes.len() <= SIZE - self.held {
+            self.hold_all(bytes);
+        } else {
+            self.hash_all(bytes);
+        }
         Ok(())
     }
 }

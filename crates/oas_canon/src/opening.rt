@@ -3,7 +3,7 @@ ghost use Rattle.std.specs.Prelude.{◌≡◌, [], IfOk};
 ghost use Rattle.oas_num.specs.Readers.{rest_from};
 ghost use Rattle.oas_canon.specs.Opening.{IsOpened};
 
-use oas_layout::Limits;
+use oas_elements::Limits;
 use oas_num::ReaderSource;
 use std::alloc::{AllocError, Global};
 use std::io::Read;

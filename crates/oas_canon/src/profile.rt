@@ -1,12 +1,8 @@
 //! The profile of the calls of this crate.
 
-use oas_judge::oas_compact::ByProfileTwo;
-use oas_layout::Profile;
+use oas_elements::Profile;
 
 /// Which elements this crate treats as the same (own rule): a polygon that goes round a rectangle is that rectangle.
 ///
 /// Each call uses it, except [`rekey`](crate::rekey), which goes from profile one to profile two.
 pub const PROFILE: Profile = Profile::Two;
-
-/// The same profile, as a type.
-pub type ByProfile = ByProfileTwo;

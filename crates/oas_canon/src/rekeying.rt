@@ -1,17 +1,15 @@
 //! From a file's canonical bytes by profile one to those by profile two.
 ghost use Rattle.std.specs.Prelude.{◌≡◌, ◌⊎◌, IfOk, IfErr};
 ghost use Rattle.oas_num.specs.declared.refusals.Why.TheVariants.{Write as NotWritten};
-ghost use Rattle.oas_judge.specs.oas_file.Deciding.{HasNoMemory, IsReasoned};
-ghost use Rattle.oas_judge.specs.oas_file.Reading.{IsRefused, IsPlaced};
+ghost use Rattle.oas_judge.specs.Deciding.{HasNoMemory, IsReasoned};
+ghost use Rattle.oas_judge.specs.Reading.{IsRefused, IsPlaced};
 ghost use Rattle.oas_canon.specs.declared.rekeying.Rekeyed.TheVariants.{NotProfile1 as IsNotProfile1};
 ghost use Rattle.oas_canon.specs.Rekeying.{Rekeys, IsRekeyedInPart, StaysSo};
 ghost use Rattle.oas_canon.specs.Run.{Exactly};
 
-use oas_judge::oas_compact::ByProfileTwo;
-use oas_judge::read_judged;
-use oas_layout::{Limits, Profile};
+use oas_elements::{Limits, Profile};
+use oas_judge::{read_judged, write_canonical};
 use oas_num::{Device, Refusal, Source};
-use oas_run_form::write_compact;
 use std::alloc::Global;
 
 /// The result for an accepted file that should be re-keyed.
@@ -46,10 +44,10 @@ pub fn rekey<S: Source, W: Device>(
     ensures cut { IfErr result (λ refusal. refusal.why ≡ NotWritten → IsRekeyedInPart limits (S.script from.old) (S.script from.new) (W.calls to.old) (W.calls to.new) refusal.at) }
     ensures exactly { Exactly limits (S.script from.old) result (S.script from.new) }
 {
-    let (layout, own) = read_judged::<S, ByProfileTwo>(alloc, from, limits, Profile::One)?;
+    let (layout, own) = read_judged(alloc, from, limits, Profile::One, Profile::Two)?;
     if !own {
         return Ok(Rekeyed::NotProfile1);
     }
-    let count = write_compact(&layout, to)?;
+    let count = write_canonical(&layout, to)?;
     Ok(Rekeyed::Done(count))
 }

@@ -1,12 +1,13 @@
 //! Whether two files mean the same layout.
 ghost use Rattle.std.specs.Prelude.{◌≡◌, IfOk, IfErr, List, ℕ};
-ghost use Rattle.oas_judge.specs.oas_file.Reading.{Refuses};
+ghost use Rattle.oas_judge.specs.Reading.{Refuses};
 ghost use Rattle.oas_canon.specs.declared.sameness.Which.TheVariants.{First as OfFirst, Second as OfSecond};
 ghost use Rattle.oas_canon.specs.Run.{IsTaken, IsCompared, ExactlyBoth};
 
-use crate::profile::{ByProfile, PROFILE};
-use oas_judge::oas_runs::read_compact;
-use oas_layout::Limits;
+use crate::given::have_one_form;
+use crate::profile::PROFILE;
+use oas_elements::Limits;
+use oas_judge::read_given;
 use oas_num::{Refusal, Source};
 use std::alloc::Global;
 
@@ -32,13 +33,13 @@ pub fn same_files<S: Source, T: Source>(
     ensures second { IfErr result (λ e. e.0 ≡ OfSecond → ((bytes : List ℕ) × IsTaken limits (S.script a.old) bytes (S.script a.new)) × Refuses limits (T.script b.old) e.1 (T.script b.new)) }
     ensures exactly { ExactlyBoth limits (S.script a.old) (S.script a.new) (T.script b.old) (T.script b.new) result }
 {
-    let one = match read_compact::<S, ByProfile>(alloc, a, limits) {
-        Ok(layout) => layout,
+    let one = match read_given(alloc, a, limits, PROFILE) {
+        Ok(given) => given,
         Err(refusal) => return Err((Which::First, refusal)),
     };
-    let other = match read_compact::<T, ByProfile>(alloc, b, limits) {
-        Ok(layout) => layout,
+    let other = match read_given(alloc, b, limits, PROFILE) {
+        Ok(given) => given,
         Err(refusal) => return Err((Which::Second, refusal)),
     };
-    Ok(one.same(&other))
+    Ok(have_one_form(&one, &other))
 }

@@ -1,2 +1,4 @@
 mod CrcLemmas
 mod DivisionLemmas
+pub mod SigningLemmas
+pub mod SummingLemmas

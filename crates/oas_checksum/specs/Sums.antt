@@ -1,5 +1,9 @@
--- CHECKSUM32 (SEMI P39, END record): the sum of the bytes, modulo 2^32.
-use Rattle.std.specs.Prelude.{ℕ, ◌%◌, ◌^◌, List, sum}
+-- What sums are.
+use Rattle.std.specs.Prelude.{◌≡◌, ℕ, List}
+use Rattle.oas_checksum.specs.Crc.{IsRegister}
+use Rattle.oas_checksum.specs.ByteSums.{checksum32}
 
-abbrev pub checksum32 : List ℕ → ℕ
-checksum32 bytes = sum bytes % 2 ^ 32
+-- the sums, a register and a sum, are those of the bytes
+pub record AreSums (sums : ℕ × ℕ) (bytes : List ℕ) : Type 0 where
+  pub register : IsRegister sums.0 bytes
+  pub sum : sums.1 ≡ checksum32 bytes

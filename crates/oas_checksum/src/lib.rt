@@ -1,15 +1,18 @@
-//! The checksums that show whether a file is complete (SEMI P39, END record, validation-scheme).
+//! The checksums that show whether a file is complete (SEMI P39, END record, validation-scheme), and a source whose bytes are
+//! summed up as they are taken.
 //!
-//! What this crate promises:
+//! What this crate promises to the crates above it:
 //!
 //! - [`Crc32`] is scheme 1, the CRC-32 of ISO 3309. After any bytes, put piece by piece, its value is the remainder of the
 //!   division of polynomials that specs/Crc.antt defines bit by bit, without a table.
-//! - [`Sum32`] is scheme 2, CHECKSUM32: the sum of the bytes, modulo 2^32.
+//! - [`Sum32`] is scheme 2, CHECKSUM32: the sum of the bytes, modulo 2^32. [`Sums`] are both.
+//! - A [`SummedSource`] gives just what the source below it gives, with the same script. Whatever a read through it says
+//!   holds for that source. Its [`Sums`] are those of the bytes that were taken since it was made, all but the last four
+//!   (`IsSummed`, specs/Summing.antt). So after a whole file they are those of which its signature would be (`signed`,
+//!   specs/Signed.antt).
 //! - Laws (module [`laws`]): the remainder is the whole message modulo the polynomial ([`laws::remainder`]).
 //!
 //! Each byte costs one look-up in a table of 256 numbers; each entry is proved to be what the division makes of that byte.
-//! The crate uses std alone. `signed` (specs/Signed.antt) defines which bytes of a file its signature covers; the caller must
-//! put these bytes.
 //!
 //! # How it is built
 //!
@@ -18,12 +21,23 @@
 //! - proofs/CrcLemmas.antt: a bit of the division is linear, so the division of a byte is the byte's own part, which is in
 //!   the table, plus the rest of the register, shifted. The table is the definition, computed. proofs/DivisionLemmas.antt
 //!   composes divisions (`divided_then`), from a bit to a message.
+//! - src/sources.rt: `SummedSource` has the script of the source below, so a read through it needs no contract of its own.
+//!   Its sums are part of its invariant, together with where the source was when it was made (`Start`).
+//! - Which bytes are a file's last four is known only at the end, so `SignedSums` (src/signing.rt) holds the last four bytes
+//!   (`LastFour`, in one number) and sums up the bytes that they push out.
 #![tactic(auto)]
 
+mod byte_sums;
 mod crc;
+mod last;
 pub mod laws;
+mod signing;
+mod sources;
 mod sums;
 mod table;
 
+pub use byte_sums::Sum32;
 pub use crc::Crc32;
-pub use sums::Sum32;
+pub use signing::SignedSums;
+pub use sources::{Start, SummedSource};
+pub use sums::Sums;

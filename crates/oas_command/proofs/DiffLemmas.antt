@@ -4,8 +4,8 @@ use Rattle.std.specs.Prelude.{IfOk}
 use Rattle.std.proofs.Common.{◌≡◌, ℕ, List, [], ◌∷◌, length, Option, Result, Ok, Err, refl, ap, ◌∙◌}
 use Rattle.oas_num.specs.declared.refusals.Refusal.{Refusal}
 use Rattle.oas_num.specs.Written.{IsWritten}
-use Rattle.oas_layout.specs.Contents.{Contents}
-use Rattle.oas_markers.specs.oas_difference.declared.options.Options.{Options}
+use Rattle.oas_elements.specs.Contents.{Contents}
+use Rattle.oas_markers.specs.Options.{Options}
 use Rattle.oas_command.specs.Runs.{status_after}
 use Rattle.oas_command.specs.Diff.{diff_text, text_status, length_status, diff_status}
 use Rattle.oas_command.proofs.RunLemmas.{result_after}

@@ -4,8 +4,8 @@ use Rattle.std.specs.Prelude.{IfOk, IfErr}
 use Rattle.std.proofs.Common.{◌≡◌, ℕ, List, Option, Result, Ok, Err, refl, ap, ◌∙◌}
 use Rattle.oas_num.specs.declared.refusals.Refusal.{Refusal}
 use Rattle.oas_num.specs.Written.{IsWritten}
-use Rattle.oas_layout.specs.Contents.{Contents}
-use Rattle.oas_markers.specs.oas_difference.declared.options.Options.{Options}
+use Rattle.oas_elements.specs.Contents.{Contents}
+use Rattle.oas_markers.specs.Options.{Options}
 use Rattle.oas_markers.specs.Written.{IsMarked, IsMarkedUpTo}
 use Rattle.oas_command.specs.Runs.{status_after}
 use Rattle.oas_command.specs.Diff.{diff_text, length_status, diff_status}

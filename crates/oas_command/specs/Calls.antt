@@ -4,9 +4,9 @@ use Rattle.std.specs.Prelude.{◌≡◌, ℕ, Bool, List, Option, Result, IfOk, 
 use Rattle.oas_num.specs.declared.refusals.Refusal.{Refusal}
 use Rattle.oas_num.specs.declared.refusals.Why.TheVariants.{Write}
 use Rattle.oas_num.specs.Script.{Script}
-use Rattle.oas_layout.specs.declared.limits.Limits.{Limits}
-use Rattle.oas_canon.specs.oas_file.Deciding.{HasNoMemory, IsReasoned}
-use Rattle.oas_canon.specs.oas_file.Reading.{IsRefused, IsPlaced, Refuses}
+use Rattle.oas_elements.specs.declared.limits.Limits.{Limits}
+use Rattle.oas_canon.specs.Deciding.{HasNoMemory, IsReasoned}
+use Rattle.oas_canon.specs.Reading.{IsRefused, IsPlaced, Refuses}
 use Rattle.oas_canon.specs.declared.profile.TheConstants.{PROFILE}
 use Rattle.oas_canon.specs.declared.rekeying.Rekeyed.{Rekeyed}
 use Rattle.oas_canon.specs.declared.rekeying.Rekeyed.TheVariants.{NotProfile1}

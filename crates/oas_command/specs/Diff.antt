@@ -2,14 +2,14 @@
 use Rattle.std.specs.Prelude.{◌≡◌, ℕ, zero, suc, List, [], ◌∷◌, Result, Ok, Err}
 use Rattle.oas_num.specs.declared.refusals.Refusal.{Refusal}
 use Rattle.oas_num.specs.Script.{Script}
-use Rattle.oas_layout.specs.declared.limits.Limits.{Limits}
-use Rattle.oas_layout.specs.Contents.{Contents, meaning_of}
-use Rattle.oas_canon.specs.oas_file.Reading.{ReadsLayout}
+use Rattle.oas_elements.specs.declared.limits.Limits.{Limits}
+use Rattle.oas_elements.specs.Contents.{Contents, meaning_of}
+use Rattle.oas_canon.specs.Reading.{ReadsLayout}
 use Rattle.oas_canon.specs.declared.profile.TheConstants.{PROFILE}
 use Rattle.oas_canon.specs.declared.sameness.Which.{Which}
 use Rattle.oas_canon.specs.declared.sameness.Which.TheVariants.{First, Second}
-use Rattle.oas_markers.specs.oas_difference.declared.options.Options.{Options}
-use Rattle.oas_markers.specs.oas_difference.Options.{difference_by}
+use Rattle.oas_markers.specs.Options.{Options}
+use Rattle.oas_markers.specs.DifferenceOptions.{difference_by}
 
 -- Both were read, the second after the first; or the first is refused, and nothing of the second is read; or the first was
 -- read, and the second is refused.

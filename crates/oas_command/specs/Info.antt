@@ -3,7 +3,7 @@ use Rattle.std.specs.Prelude.{◌≡◌, ℕ, List, Result, Ok, Err}
 use Rattle.oas_num.specs.declared.refusals.Refusal.{Refusal}
 use Rattle.oas_num.specs.declared.refusals.Why.TheVariants.{Memory}
 use Rattle.oas_num.specs.Script.{Script}
-use Rattle.oas_layout.specs.Contents.{Contents, meaning_of}
+use Rattle.oas_elements.specs.Contents.{Contents, meaning_of}
 use Rattle.oas_info.specs.declared.info.Info.{Info}
 use Rattle.oas_info.specs.Info.{IsInfo}
 use Rattle.oas_info.specs.declared.form.Form.{Form}

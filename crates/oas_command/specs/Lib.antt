@@ -1,3 +1,8 @@
+pub use Rattle.oas_canon.specs.Bytes
+pub use Rattle.oas_canon.specs.Opening
+pub use Rattle.oas_canon.specs.declared.profile.TheConstants as ProfileConstants
+pub use Rattle.oas_canon.specs.declared.sameness.Which
+pub use Rattle.oas_info.specs.declared.form.Form
 pub mod Lines
 pub mod Calls
 pub mod Diff
@@ -8,5 +13,3 @@ pub mod Runs
 pub mod Unopened
 pub mod Rekeying
 pub mod Work
-pub use Rattle.oas_canon.specs as oas_canon
-pub use Rattle.oas_info.specs as oas_info

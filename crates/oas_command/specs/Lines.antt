@@ -4,7 +4,6 @@ use Rattle.hex.specs.Hex.{encode_lower}
 use Rattle.oas_command.specs.declared.lines.End.{End}
 use Rattle.oas_command.specs.declared.lines.End.TheVariants.{Newline, Zero}
 use Rattle.oas_command.specs.declared.lines.Label.{Label}
-use Rattle.oas_command.specs.declared.lines.Pieces.{Pieces}
 
 -- a text, and the line's end
 abbrev pub line_of : List ℕ → List ℕ
@@ -15,9 +14,9 @@ abbrev pub end_byte : End → ℕ
 end_byte Newline = 10
 end_byte Zero = 0
 
--- four texts one after another, and the line's end
-abbrev pub line_of_pieces : Pieces → List ℕ
-line_of_pieces pieces = pieces.first.now ++ (pieces.second.now ++ (pieces.third.now ++ (pieces.fourth.now ++ pieces.end ∷ [])))
+-- four texts one after another, and what ends the line
+abbrev pub line_of_pieces : List ℕ → List ℕ → List ℕ → List ℕ → ℕ → List ℕ
+line_of_pieces first second third fourth end = first ++ (second ++ (third ++ (fourth ++ end ∷ [])))
 
 -- ---- to its output
 

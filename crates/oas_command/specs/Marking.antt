@@ -2,11 +2,11 @@
 use Rattle.std.specs.Prelude.{◌≡◌, ℕ, List, Option, Result, Ok, Err}
 use Rattle.oas_num.specs.Devices.{Calls, TakesAll}
 use Rattle.oas_num.specs.declared.refusals.Refusal.{Refusal}
-use Rattle.oas_layout.specs.Contents.{Contents, meaning_of}
+use Rattle.oas_elements.specs.Contents.{Contents, meaning_of}
 use Rattle.oas_canon.specs.declared.profile.TheConstants.{PROFILE}
 use Rattle.oas_canon.specs.declared.sameness.Which.{Which}
-use Rattle.oas_markers.specs.oas_difference.Choice.{chosen}
-use Rattle.oas_markers.specs.oas_difference.declared.options.Options.{Options}
+use Rattle.oas_markers.specs.Choice.{chosen}
+use Rattle.oas_markers.specs.Options.{Options}
 use Rattle.oas_markers.specs.Markers.{markers}
 use Rattle.oas_markers.specs.Written.{IsMarkedUpTo}
 use Rattle.oas_command.specs.Runs.{blamed}

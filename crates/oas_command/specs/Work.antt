@@ -3,11 +3,11 @@ use Rattle.oas_num.specs.Devices.{Calls}
 use Rattle.std.specs.Prelude.{◌≡◌, ℕ, Bool, List, Option, Result}
 use Rattle.oas_num.specs.declared.refusals.Refusal.{Refusal}
 use Rattle.oas_num.specs.Script.{Script}
-use Rattle.oas_layout.specs.declared.limits.Limits.{Limits}
-use Rattle.oas_layout.specs.Contents.{Contents, meaning_of}
-use Rattle.oas_listing.specs.Listing.{listing}
+use Rattle.oas_elements.specs.declared.limits.Limits.{Limits}
+use Rattle.oas_elements.specs.Contents.{Contents, meaning_of}
+use Rattle.oas_canon.specs.Listing.{listing}
 use Rattle.oas_info.specs.declared.info.Info.{Info}
-use Rattle.oas_canon.specs.oas_file.Reading.{ReadsLayout}
+use Rattle.oas_canon.specs.Reading.{ReadsLayout}
 use Rattle.oas_canon.specs.CellKeys.{cell_key_lines}
 use Rattle.oas_canon.specs.declared.profile.TheConstants.{PROFILE}
 use Rattle.oas_canon.specs.declared.rekeying.Rekeyed.{Rekeyed}

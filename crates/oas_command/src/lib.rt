@@ -48,8 +48,8 @@
 //! That a refused file writes nothing needs no proof of its own: `canonicalize` leaves its writer unchanged (`nothing`). The
 //! same holds for `rekey`, and for a file that isn't canonical by profile one (`unwritten`).
 //!
-//! The tests, in command_tests, are tables of rows as text, since a table of values would be expensive to prove, and some
-//! files. `src/tests/table.rt` has the worked rows. `modal_table.rt`, `readings_table.rt` and, under limits of their own,
+//! The tests, in program_tests, are tables of rows as text, since a table of values would be expensive to prove, and some
+//! files. `src/commands/table.rt` has the worked rows. `modal_table.rt`, `readings_table.rt` and, under limits of their own,
 //! `limits_table.rt` have rows that each rule out a wrong reading of the rules; rows that need no limits are in tests/rows,
 //! which costs the prover nothing. `rows.rt` and `readings.rt` read the tables. `runs.rt` reads rows of any command:
 //! `answers.rt` has a table of those whose output is text, `rekeying.rt` one of `rekey`. `devices.rt` has the readers and
@@ -68,10 +68,12 @@ mod work;
 pub use keeping::KeptKey;
 pub use limits::limits_of;
 pub use lines::{End, Label, write_line};
-pub use oas_canon;
+pub use oas_canon::{
+    Device, Layout, Limits, Outlet, PROFILE, ReaderSource, Refusal, Sink, SliceSource, Source,
+    Which, Why, has_canonical_bytes, layout_key, open_source,
+};
 pub use oas_info::Form;
-pub use oas_markers::oas_difference;
-pub use oas_markers::oas_difference::{Choice, ChosenLayer, Detail, Options};
+pub use oas_markers::{Choice, ChosenLayer, Detail, Options, PLAIN};
 pub use runs::{
     kept_telling, marking_telling, run_refused, status_of_verdict, worse, write_named_check,
     write_named_key, write_sameness,

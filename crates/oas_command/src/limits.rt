@@ -1,8 +1,8 @@
 //! The limits of a run.
 ghost use Rattle.std.specs.Prelude.{◌≡◌, ◌^◌, true, false};
-ghost use Rattle.oas_layout.specs.Limits.{AreLimits};
+ghost use Rattle.oas_elements.specs.Limits.{AreLimits};
 
-use oas_layout::Limits;
+use oas_elements::Limits;
 
 /// The limits with the flag `--large` and without it.
 pub fn limits_of(is_large: bool) -> Limits

@@ -1,12 +1,10 @@
-//! Writing a line.
+//! Lines, and writing one.
 
-ghost use Rattle.std.specs.Prelude.{◌≡◌, ◌<◌, ◌^◌, IfErr, IfOk, OnOk, length};
-ghost use Rattle.oas_num.specs.Outlets.{IsGiven, IsSent, failures_of};
-ghost use Rattle.oas_num.specs.Writing.{Writes};
+ghost use Rattle.std.specs.Prelude.{◌≡◌, ◌<◌, ◌^◌, IfErr, IfOk, length};
 ghost use Rattle.oas_num.specs.Written.{IsWritten, IsCutOff};
 ghost use Rattle.oas_command.specs.Lines.{end_byte, line_of, line_of_pieces};
 
-use oas_num::{Device, Outlet, Refusal, Sink, SinkFault, Why};
+use oas_num::{Content, Device, Refusal, Sink, SinkFault, write_content};
 
 /// What ends a line.
 #[derive(Clone, Copy, Debug, PartialEq, Eq)]
@@ -39,7 +37,7 @@ pub struct Label<'a> {
 }
 
 /// The pieces of a line, one after another.
-#[derive(Clone, Copy)]
+#[derive(Drop)]
 pub struct Pieces<'a> {
     pub first: &'a [u8],
     pub second: &'a [u8],
@@ -47,19 +45,21 @@ pub struct Pieces<'a> {
     pub fourth: &'a [u8],
     /// What ends the line.
     pub end: u8,
+    ghost short: { length (line_of_pieces first.now second.now third.now fourth.now end) < 2 ^ 64 },
 }
 
-/// Puts the pieces of a line and its end into an outlet, and sends all of it to the writer.
-fn put_and_close<W: Device>(outlet: &mut Outlet<'_, W>, pieces: Pieces<'_>) -> Result<(), SinkFault>
-    ensures writes { Writes (IsGiven W.calls) failures_of outlet.old (line_of_pieces pieces.entry) result outlet.new }
-    ensures all { OnOk result (IsSent outlet.new) }
-{
-    outlet.put_all(pieces.first)?;
-    outlet.put_all(pieces.second)?;
-    outlet.put_all(pieces.third)?;
-    outlet.put_all(pieces.fourth)?;
-    outlet.put(pieces.end)?;
-    outlet.close()
+impl Content for Pieces<'_> {
+    ghost use Rattle.oas_command.specs.Lines.{line_of_pieces};
+
+    ghost bytes = { λ p. line_of_pieces p.first.now p.second.now p.third.now p.fourth.now p.end };
+
+    fn put_into<K: Sink>(&self, sink: &mut K) -> Result<(), SinkFault> {
+        sink.put_all(self.first)?;
+        sink.put_all(self.second)?;
+        sink.put_all(self.third)?;
+        sink.put_all(self.fourth)?;
+        sink.put(self.end)
+    }
 }
 
 /// Writes a text and the line's end, and returns how many bytes that is.
@@ -77,21 +77,5 @@ pub fn write_line<W: Device>(writer: &mut W, text: &[u8]) -> Result<u64, Refusal
         fourth: b"",
         end: b'\n',
     };
-    write_pieces(writer, pieces)
-}
-
-/// Like `write_line`, for a text in pieces.
-pub(crate) fn write_pieces<W: Device>(writer: &mut W, pieces: Pieces<'_>) -> Result<u64, Refusal>
-    requires short { length (line_of_pieces pieces) < 2 ^ 64 }
-    ensures written { IfOk result (IsWritten W.calls writer.old (line_of_pieces pieces.entry) writer.new) }
-    ensures refused { IfErr result (IsCutOff W.calls writer.old (line_of_pieces pieces.entry) writer.new) }
-{
-    let mut outlet = Outlet::new(writer);
-    match put_and_close(&mut outlet, pieces) {
-        Ok(()) => Ok(outlet.taken()),
-        Err(_) => Err(Refusal {
-            at: outlet.taken(),
-            why: Why::Write,
-        }),
-    }
+    write_content(&pieces, writer)
 }

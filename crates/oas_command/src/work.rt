@@ -9,7 +9,7 @@ use crate::runs::{
 };
 use oas_canon::Limits;
 use oas_info::Form;
-use oas_markers::oas_difference::Options;
+use oas_markers::Options;
 use oas_num::{Device, Sink, Source};
 use std::alloc::Global;
 

@@ -7,7 +7,7 @@ use Rattle.std.specs.declared.cmp.Ordering.TheVariants.{Less, Equal, Greater}
 use Rattle.std.specs.List.{AllByRecursion}
 use Rattle.std.specs.Map.{keys_of}
 use Rattle.std.specs.BTreeSet.{insert_key}
-use Rattle.oas_layout.specs.Bag.{items}
+use Rattle.oas_elements.specs.Bag.{items}
 use Rattle.oas_difference.specs.Ascending.{ascending}
 
 -- ---- what holds for each key

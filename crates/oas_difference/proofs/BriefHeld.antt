@@ -11,16 +11,16 @@ use Rattle.std.specs.BTreeMap.{is_at}
 use Rattle.std.proofs.lemmas.Bool.{eqb-true}
 use Rattle.std.proofs.lemmas.List.Folds.{flat_map-map}
 use Rattle.std.proofs.lemmas.List.Sums.{sum_by-cons}
-use Rattle.oas_layout.specs.declared.profile.Profile.{Profile}
-use Rattle.oas_layout.specs.declared.element.Element.{Element}
-use Rattle.oas_layout.specs.Element.{element_cmp}
-use Rattle.oas_layout.specs.Laws.ElementLaws.{element_total, exact_elements}
-use Rattle.oas_layout.specs.Same.{IsNormal}
-use Rattle.oas_layout.specs.Bag.{items, IsBag}
-use Rattle.oas_layout.specs.Meaning.{elements_of, element_count, count_of}
-use Rattle.oas_layout.specs.Contents.{Cell, Contents, expanded, meaning_of, IsCell, IsLayout}
-use Rattle.oas_difference.specs.declared.options.Detail.{Detail}
-use Rattle.oas_difference.specs.declared.options.Detail.TheVariants.{Elements, Counts}
+use Rattle.oas_elements.specs.declared.profile.Profile.{Profile}
+use Rattle.oas_elements.specs.declared.element.Element.{Element}
+use Rattle.oas_elements.specs.Element.{element_cmp}
+use Rattle.oas_elements.specs.Laws.ElementLaws.{element_total, exact_elements}
+use Rattle.oas_elements.specs.Same.{IsNormal}
+use Rattle.oas_elements.specs.Bag.{items, IsBag}
+use Rattle.oas_elements.specs.Meaning.{elements_of, element_count, count_of}
+use Rattle.oas_elements.specs.Contents.{Cell, Contents, expanded, meaning_of, IsCell, IsLayout}
+use Rattle.oas_diff_options.specs.declared.options.Detail.{Detail}
+use Rattle.oas_diff_options.specs.declared.options.Detail.TheVariants.{Elements, Counts}
 use Rattle.oas_difference.specs.Ascending.{ascending}
 use Rattle.oas_difference.specs.Pairs.{found}
 use Rattle.oas_difference.specs.Changed.{change_at, changed}
@@ -28,12 +28,12 @@ use Rattle.oas_difference.specs.Difference.{unit_changes}
 use Rattle.oas_difference.specs.Format.{notation_of}
 use Rattle.oas_difference.specs.Brief.{only_first, only_second, brief_of, cell_brief}
 use Rattle.oas_difference.specs.Held.{pair_changed, held_changed, held_brief, held_lines, cell_pairs}
-use Rattle.oas_difference.specs.Microns.{counted_to}
-use Rattle.oas_difference.specs.declared.format.Syntax.{Syntax}
-use Rattle.oas_difference.specs.declared.format.Format.{Format}
+use Rattle.oas_diff_text.specs.Microns.{counted_to}
+use Rattle.oas_diff_options.specs.declared.format.Syntax.{Syntax}
+use Rattle.oas_diff_options.specs.declared.format.Format.{Format}
 use Rattle.oas_difference.specs.Options.{detailed}
-use Rattle.oas_difference.specs.Choice.{or_empty}
-use Rattle.oas_difference.specs.declared.choice.ChosenLayer.{ChosenLayer}
+use Rattle.oas_diff_options.specs.Choice.{or_empty}
+use Rattle.oas_diff_options.specs.declared.choice.ChosenLayer.{ChosenLayer}
 use Rattle.oas_difference.proofs.Held.{changed_held, there, the_items, bag_of, or_bag, bag_at, or_items, elements_found, keys_held, pairs_are, difference_held}
 use Rattle.oas_difference.proofs.Sums.{sorted_ascending, weight_if, sum_found}
 use Rattle.oas_difference.proofs.Lengths.{unwrapped, held_length}

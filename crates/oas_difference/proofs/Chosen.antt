@@ -1,5 +1,5 @@
 -- What is compared of a layout is a layout, and means what is compared of its meaning.
-use Rattle.std.proofs.Common.{◌≡◌, ℕ, zero, suc, ◌<◌, ◌≤◌, List, [], ◌∷◌, ◌++◌, length, drop, sum_by, replicate, Bool, true, false, cond, Option, None, Some, slice_get}
+use Rattle.std.proofs.Common.{◌≡◌, ℕ, zero, suc, ◌<◌, ◌≤◌, List, [], ◌∷◌, ◌++◌, length, sum_by, replicate, Bool, true, false, cond, Option, None, Some}
 use Rattle.std.proofs.Common.{length-append, refl, sym, ◌∙◌, ap, subst, arith}
 use Rattle.std.specs.Prelude.{IfSome}
 use Rattle.std.specs.Borrow.{Bor}
@@ -9,23 +9,24 @@ use Rattle.std.specs.declared.cmp.Ordering.TheVariants.{Less}
 use Rattle.std.specs.List.{AllByRecursion, filter}
 use Rattle.std.specs.List.Sorted.{IsStrictlySortedBy}
 use Rattle.std.specs.Map.{keys_of}
+use Rattle.std.specs.Map.Iter.{TakesFirst}
 use Rattle.std.proofs.lemmas.List.Sums.{sum_by-append}
-use Rattle.oas_layout.specs.declared.element.Element.{Element}
-use Rattle.oas_layout.specs.Element.{element_cmp}
-use Rattle.oas_layout.specs.declared.profile.Profile.{Profile}
-use Rattle.oas_layout.specs.Same.{IsNormal}
-use Rattle.oas_layout.specs.Weight.{weight_of}
-use Rattle.oas_layout.specs.Bag.{items, counted, IsTally, IsBag}
-use Rattle.oas_layout.specs.Meaning.{element_count, cells_weight}
-use Rattle.oas_layout.specs.Contents.{Cell, Contents, names, bags, expanded, meaning_of, IsCell, IsLayout}
-use Rattle.oas_layout.specs.Sound.{IsSound}
-use Rattle.oas_difference.specs.Choice.{is_shown, is_named, chosen_cells, chosen}
-use Rattle.oas_difference.specs.Held.{elements_shown, cells_chosen, contents_chosen, IsNamedAt}
-use Rattle.oas_difference.specs.Pairs.{head_key}
+use Rattle.oas_elements.specs.declared.element.Element.{Element}
+use Rattle.oas_elements.specs.Element.{element_cmp}
+use Rattle.oas_elements.specs.declared.profile.Profile.{Profile}
+use Rattle.oas_elements.specs.Same.{IsNormal}
+use Rattle.oas_elements.specs.Weight.{weight_of}
+use Rattle.oas_elements.specs.Bag.{items, IsTally, IsBag}
+use Rattle.oas_elements.specs.Meaning.{element_count, cells_weight}
+use Rattle.oas_elements.specs.Contents.{Cell, Contents, names, expanded, meaning_of, IsCell, IsLayout}
+use Rattle.oas_elements.specs.Sound.{IsSound}
+use Rattle.oas_diff_options.specs.Choice.{is_shown, is_named, chosen_cells, chosen}
+use Rattle.oas_diff_text.specs.Held.{name_and_elements}
+use Rattle.oas_difference.specs.Held.{AreInHand, elements_shown, cells_chosen, contents_chosen}
 use Rattle.oas_difference.specs.Laws.OptionLaws.{AllByDefault}
-use Rattle.oas_difference.specs.declared.choice.Choice.{Choice}
-use Rattle.oas_difference.specs.declared.choice.ChosenLayer.{ChosenLayer}
-use Rattle.oas_difference.proofs.Steps.{cells_at, head_at}
+use Rattle.oas_diff_options.specs.declared.choice.Choice.{Choice}
+use Rattle.oas_diff_options.specs.declared.choice.ChosenLayer.{ChosenLayer}
+use Rattle.oas_difference.proofs.Steps.{in_hand_is, none_in_hand}
 
 -- ---- elements
 
@@ -122,12 +123,12 @@ module _ (layers : Option (Bor (List ChosenLayer))) where
       ]
 
   -- the first, which is compared or not
-  pub first_is : (p : Bor Element × ℕ) (es rest : List (Element × ℕ)) → es ≡ counted p ∷ rest → is_shown layers p.0.now ≡ true → elements_shown layers es
-      ≡ counted p ∷ elements_shown layers rest
-  first_is p es rest e taken = ap (elements_shown layers) e ∙ ap (λ b. cond b (counted p ∷ elements_shown layers rest) (elements_shown layers rest)) taken
+  pub first_is : (p : Element × ℕ) (es rest : List (Element × ℕ)) → es ≡ p ∷ rest → is_shown layers p.0 ≡ true → elements_shown layers es
+      ≡ p ∷ elements_shown layers rest
+  first_is p es rest e taken = ap (elements_shown layers) e ∙ ap (λ b. cond b (p ∷ elements_shown layers rest) (elements_shown layers rest)) taken
 
-  pub first_is_not : (p : Bor Element × ℕ) (es rest : List (Element × ℕ)) → es ≡ counted p ∷ rest → is_shown layers p.0.now ≡ false → elements_shown layers es ≡ elements_shown layers rest
-  first_is_not p es rest e passed = ap (elements_shown layers) e ∙ ap (λ b. cond b (counted p ∷ elements_shown layers rest) (elements_shown layers rest)) passed
+  pub first_is_not : (p : Element × ℕ) (es rest : List (Element × ℕ)) → es ≡ p ∷ rest → is_shown layers p.0 ≡ false → elements_shown layers es ≡ elements_shown layers rest
+  first_is_not p es rest e passed = ap (elements_shown layers) e ∙ ap (λ b. cond b (p ∷ elements_shown layers rest) (elements_shown layers rest)) passed
 
   cell_shown : (profile : Profile) (c : Cell) → IsCell profile c → IsCell profile (c.0, elements_shown layers c.1)
   cell_shown profile c h = record { name = h.name; bag = bag_shown profile c.1 h.bag; sound = all_shown (λ p. IsSound p.0) c.1 h.sound }
@@ -210,51 +211,47 @@ module _ (choice : Choice) where
   pub meaning_chosen : (a : Contents) → meaning_of (contents_chosen choice a) ≡ chosen choice (meaning_of a)
   meaning_chosen a = λ i. record { unit = a.unit; cells = expanded_chosen a.cells i }
 
-  -- ---- from one place on
+  -- ---- the first cell
 
-  -- the cell at a place, which is compared
-  named_is : (cs : List Cell) (i : ℕ) (name : List ℕ) → IsNamedAt choice cs i → slice_get (names cs) i ≡ Some name → is_named choice.cells name ≡ true
-  named_is cs i name h e = subst (λ (o : Option (List ℕ)). IfSome o (λ n. is_named choice.cells n ≡ true)) e h
+  -- it is compared
+  pub first_cell : (c : Cell) (cs rest : List Cell) → cs ≡ c ∷ rest → is_named choice.cells c.0 ≡ true → cells_chosen choice cs ≡ (c.0, elements_shown choice.layers c.1) ∷ cells_chosen choice rest
+  first_cell c cs rest e taken =
+      ap (cells_chosen choice) e ∙ ap (λ b. cond b ((c.0, elements_shown choice.layers c.1) ∷ cells_chosen choice rest) (cells_chosen choice rest)) taken
 
-  pub cell_chosen : (cs : List Cell) (i : ℕ) (name : List ℕ) (es : List (Element × ℕ)) → IsNamedAt choice cs i → slice_get (names cs) i ≡ Some name →
-      slice_get (bags cs) i ≡ Some es → cells_chosen choice (drop i cs) ≡ (name, elements_shown choice.layers es) ∷ cells_chosen choice (drop (suc i) cs)
-  cell_chosen cs i name es h k l =
-      ap (cells_chosen choice) (cells_at cs i name es k l)
-      ∙ ap (λ b. cond b ((name, elements_shown choice.layers es) ∷ cells_chosen choice (drop (suc i) cs)) (cells_chosen choice (drop (suc i) cs))) (named_is cs i name h k)
+  -- or isn't
+  pub not_first : (c : Cell) (cs rest : List Cell) → cs ≡ c ∷ rest → is_named choice.cells c.0 ≡ false → cells_chosen choice cs ≡ cells_chosen choice rest
+  not_first c cs rest e passed =
+      ap (cells_chosen choice) e ∙ ap (λ b. cond b ((c.0, elements_shown choice.layers c.1) ∷ cells_chosen choice rest) (cells_chosen choice rest)) passed
 
-  pub head_chosen : (cs : List Cell) (i : ℕ) (name : List ℕ) → IsNamedAt choice cs i → slice_get (names cs) i ≡ Some name →
-      (es : List (Element × ℕ)) × (cells_chosen choice (drop i cs) ≡ (name, es) ∷ cells_chosen choice (drop (suc i) cs))
-  head_chosen cs i name h k =
-      let head = head_at cs i name k in (
-        elements_shown choice.layers head.0,
-        ap (cells_chosen choice) head.1
-            ∙ ap (λ b. cond b ((name, elements_shown choice.layers head.0) ∷ cells_chosen choice (drop (suc i) cs)) (cells_chosen choice (drop (suc i) cs))) (named_is cs i name h k),
-      )
+  tallies : (profile : Profile) (cs : List Cell) → AllByRecursion (IsCell profile) cs → AllByRecursion (λ c. IsTally c.1) cs
+  tallies profile [] h = tt
+  tallies profile (c ∷ cs) h = (h.0.bag.tally, tallies profile cs h.1)
 
-  pub name_chosen : (cs : List Cell) (i : ℕ) (name : List ℕ) → IsNamedAt choice cs i → slice_get (names cs) i ≡ Some name → Some name ≡ head_key (cells_chosen choice (drop i cs))
-  name_chosen cs i name h k = let head = head_chosen cs i name h k in sym (ap head_key head.1)
+  -- the elements of each cell that is compared are in order
+  pub chosen_tallies : (a : Contents) → IsLayout a → AllByRecursion (λ c. IsTally c.1) (cells_chosen choice a.cells)
+  chosen_tallies a l = tallies a.profile (cells_chosen choice a.cells) (all_chosen a.profile a.cells l.cells)
 
-  -- a cell that is not compared
-  pub not_chosen : (cs : List Cell) (i : ℕ) (name : List ℕ) → slice_get (names cs) i ≡ Some name → is_named choice.cells name ≡ false →
-      cells_chosen choice (drop i cs) ≡ cells_chosen choice (drop (suc i) cs)
-  not_chosen cs i name k passed =
-      let head = head_at cs i name k in
-      ap (cells_chosen choice) head.1
-      ∙ ap (λ b. cond b ((name, elements_shown choice.layers head.0) ∷ cells_chosen choice (drop (suc i) cs)) (cells_chosen choice (drop (suc i) cs))) passed
+-- ---- cells of which the first is in hand
 
-  pub at_named : (cs : List Cell) (i : ℕ) (name : List ℕ) → slice_get (names cs) i ≡ Some name → is_named choice.cells name ≡ true → IsNamedAt choice cs i
-  at_named cs i name k taken = subst (λ (o : Option (List ℕ)). IfSome o (λ n. is_named choice.cells n ≡ true)) (sym k) taken
+-- at the start
+pub begin_in_hand : (all : List Cell) (first : Option (Bor (List ℕ) × List (Element × ℕ))) (rest : List Cell) → TakesFirst name_and_elements all first rest →
+    AllByRecursion (λ c. IsTally c.1) all → AreInHand first rest
+begin_in_hand all first rest h t = record {
+  none = none_in_hand name_and_elements all first rest h;
+  tallies = subst (λ (cs : List Cell). AllByRecursion (λ c. IsTally c.1) cs) (sym (in_hand_is name_and_elements all first rest h)) t;
+}
 
-  pub past_named : (cs : List Cell) (i : ℕ) → length cs ≤ i → IsNamedAt choice cs i
-  past_named [] i h = tt
-  past_named (c ∷ cs) zero h = absurd (omega (arith, h))
-  past_named (c ∷ cs) (suc i) h = past_named cs i (omega (arith, h))
+-- once one was given away
+pub next_in_hand : (first next : Option (Bor (List ℕ) × List (Element × ℕ))) (rest left : List Cell) → AreInHand first rest → TakesFirst name_and_elements rest next left → AreInHand next left
+next_in_hand first next rest left a h = begin_in_hand rest next left h (rest_tallies first a) where
+  rest_tallies : (o : Option (Bor (List ℕ) × List (Element × ℕ))) → AreInHand o rest → AllByRecursion (λ c. IsTally c.1) rest
+  rest_tallies None b = subst (λ (cs : List Cell). AllByRecursion (λ c. IsTally c.1) cs) (sym (b.none refl)) tt
+  rest_tallies (Some c) b = b.tallies.1
 
-  pub none_chosen : (cs : List Cell) (i : ℕ) → length cs ≤ i → cells_chosen choice (drop i cs) ≡ []
-  none_chosen [] zero h = refl
-  none_chosen [] (suc i) h = refl
-  none_chosen (c ∷ cs) zero h = absurd (omega (arith, h))
-  none_chosen (c ∷ cs) (suc i) h = none_chosen cs i (omega (arith, h))
+-- which was in order
+pub given_tally : (first given : Option (Bor (List ℕ) × List (Element × ℕ))) (rest : List Cell) → AreInHand first rest → given ≡ first → IfSome given (λ c. IsTally c.1)
+given_tally None given rest a is = subst (λ (o : Option (Bor (List ℕ) × List (Element × ℕ))). IfSome o (λ c. IsTally c.1)) (sym is) tt
+given_tally (Some c) given rest a is = subst (λ (o : Option (Bor (List ℕ) × List (Element × ℕ))). IfSome o (λ c. IsTally c.1)) (sym is) a.tallies.0
 
 -- ---- where nothing is named
 

@@ -1,14 +1,14 @@
 -- The difference of what is compared of two layouts is that of what they hold of it.
 use Rattle.std.proofs.Common.{◌≡◌, ◌∙◌, ℕ, ◌^◌, ◌<◌, ◌++◌, List, length, sym, subst, None}
-use Rattle.oas_layout.specs.declared.profile.Profile.{Profile}
-use Rattle.oas_layout.specs.Meaning.{Meaning}
-use Rattle.oas_layout.specs.Contents.{Contents, meaning_of, IsLayout}
-use Rattle.oas_difference.specs.Choice.{chosen}
+use Rattle.oas_elements.specs.declared.profile.Profile.{Profile}
+use Rattle.oas_elements.specs.Meaning.{Meaning}
+use Rattle.oas_elements.specs.Contents.{Contents, meaning_of, IsLayout}
+use Rattle.oas_diff_options.specs.Choice.{chosen}
 use Rattle.oas_difference.specs.Difference.{unit_changes}
 use Rattle.oas_difference.specs.Format.{notation_of}
 use Rattle.oas_difference.specs.Options.{detailed, compared}
 use Rattle.oas_difference.specs.Held.{cells_chosen, contents_chosen, held_lines}
-use Rattle.oas_difference.specs.declared.options.Options.{Options}
+use Rattle.oas_diff_options.specs.declared.options.Options.{Options}
 use Rattle.oas_difference.proofs.BriefHeld.{detailed_held}
 use Rattle.oas_difference.proofs.Chosen.{all_by_default, layout_chosen, meaning_chosen}
 use Rattle.oas_difference.proofs.Lengths.{short_enough}

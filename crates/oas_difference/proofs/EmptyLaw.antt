@@ -15,26 +15,26 @@ use Rattle.std.specs.Map.{keys_of}
 use Rattle.std.specs.BTreeSet.{insert_key}
 use Rattle.std.proofs.lemmas.Map.Lookups.{CmpEqualImpliesEq, exact_bytes}
 use Rattle.oas_num.specs.Ratio.{Ratio}
-use Rattle.oas_layout.specs.declared.profile.Profile.{Profile}
-use Rattle.oas_layout.specs.declared.element.Element.{Element}
-use Rattle.oas_layout.specs.Element.{element_cmp}
-use Rattle.oas_layout.specs.Same.{same_element, normal}
-use Rattle.oas_layout.specs.Laws.ElementLaws.{exact_elements}
-use Rattle.oas_layout.specs.Laws.SameLaws.{same_element-is, same_element-Decides, normal-alike}
-use Rattle.oas_layout.specs.Meaning.{Meaning, SameLayout, elements_of, count_of}
+use Rattle.oas_elements.specs.declared.profile.Profile.{Profile}
+use Rattle.oas_elements.specs.declared.element.Element.{Element}
+use Rattle.oas_elements.specs.Element.{element_cmp}
+use Rattle.oas_elements.specs.Same.{same_element, normal}
+use Rattle.oas_elements.specs.Laws.ElementLaws.{exact_elements}
+use Rattle.oas_elements.specs.Laws.SameLaws.{same_element-is, same_element-Decides, normal-alike}
+use Rattle.oas_elements.specs.Meaning.{Meaning, SameLayout, elements_of, count_of}
 use Rattle.oas_difference.specs.Ascending.{ascending}
 use Rattle.oas_difference.specs.Changed.{change_at, changed}
-use Rattle.oas_difference.specs.Entries.{unit_entry, cell_entry}
+use Rattle.oas_diff_text.specs.Entries.{unit_entry, cell_entry}
 use Rattle.oas_difference.specs.Format.{notation_of}
 use Rattle.oas_difference.specs.Difference.{same_ratio, unit_changes, change_entry, element_changes, below_name, cell_changes, difference}
-use Rattle.oas_difference.specs.declared.format.Syntax.{Syntax}
-use Rattle.oas_difference.specs.declared.format.Syntax.TheVariants.{Lines, Json}
-use Rattle.oas_difference.specs.declared.format.Format.{Format}
-use Rattle.oas_difference.specs.declared.format.Notation.{Notation}
+use Rattle.oas_diff_options.specs.declared.format.Syntax.{Syntax}
+use Rattle.oas_diff_options.specs.declared.format.Syntax.TheVariants.{Lines, Json}
+use Rattle.oas_diff_options.specs.declared.format.Format.{Format}
+use Rattle.oas_difference.specs.declared.notation.Notation.{Notation}
 use Rattle.oas_difference.proofs.Steps.{change_first}
 use Rattle.oas_difference.specs.Laws.DifferenceLaws.{EmptyIfSame}
 use Rattle.oas_difference.specs.Laws.OptionLaws.{SameElements}
-use Rattle.oas_difference.specs.declared.choice.ChosenLayer.{ChosenLayer}
+use Rattle.oas_diff_options.specs.declared.choice.ChosenLayer.{ChosenLayer}
 use Rattle.std.specs.Borrow.{Bor}
 
 -- ---- lists without a line

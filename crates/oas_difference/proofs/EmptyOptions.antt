@@ -7,25 +7,26 @@ use Rattle.std.specs.Cmp.Lexicographic.{slice_cmp}
 use Rattle.std.specs.Map.{keys_of}
 use Rattle.std.specs.List.{AllByRecursion}
 use Rattle.std.proofs.lemmas.Bool.{eqb-true}
-use Rattle.oas_layout.specs.declared.profile.Profile.{Profile}
-use Rattle.oas_layout.specs.declared.element.Element.{Element}
-use Rattle.oas_layout.specs.Element.{element_cmp}
-use Rattle.oas_layout.specs.Meaning.{Meaning, elements_of, count_of}
-use Rattle.oas_difference.specs.declared.choice.ChosenLayer.{ChosenLayer}
-use Rattle.oas_difference.specs.declared.options.Detail.{Detail}
-use Rattle.oas_difference.specs.declared.options.Detail.TheVariants.{Elements, Counts}
-use Rattle.oas_difference.specs.declared.options.Options.{Options}
+use Rattle.oas_elements.specs.declared.profile.Profile.{Profile}
+use Rattle.oas_elements.specs.declared.element.Element.{Element}
+use Rattle.oas_elements.specs.Element.{element_cmp}
+use Rattle.oas_elements.specs.Meaning.{Meaning, elements_of, count_of}
+use Rattle.oas_diff_options.specs.declared.choice.ChosenLayer.{ChosenLayer}
+use Rattle.oas_diff_options.specs.declared.options.Detail.{Detail}
+use Rattle.oas_diff_options.specs.declared.options.Detail.TheVariants.{Elements, Counts}
+use Rattle.oas_diff_options.specs.declared.options.Options.{Options}
 use Rattle.oas_difference.specs.Ascending.{ascending}
 use Rattle.oas_difference.specs.Changed.{change_at, changed}
 use Rattle.oas_difference.specs.Format.{notation_of}
 use Rattle.oas_difference.specs.Difference.{unit_changes, change_entry, element_changes, below_name, cell_changes, difference}
-use Rattle.oas_difference.specs.Brief.{only_first, only_second, brief_entry, signed_brief, brief_sign, cell_brief, brief}
-use Rattle.oas_difference.specs.declared.format.Syntax.{Syntax}
-use Rattle.oas_difference.specs.declared.format.Syntax.TheVariants.{Lines, Json}
-use Rattle.oas_difference.specs.declared.format.Format.{Format}
-use Rattle.oas_difference.specs.declared.format.Notation.{Notation}
+use Rattle.oas_difference.specs.Brief.{only_first, only_second, signed_brief, brief_sign, cell_brief, brief}
+use Rattle.oas_diff_text.specs.Entries.{brief_entry}
+use Rattle.oas_diff_options.specs.declared.format.Syntax.{Syntax}
+use Rattle.oas_diff_options.specs.declared.format.Syntax.TheVariants.{Lines, Json}
+use Rattle.oas_diff_options.specs.declared.format.Format.{Format}
+use Rattle.oas_difference.specs.declared.notation.Notation.{Notation}
 use Rattle.oas_difference.specs.Limited.{limited}
-use Rattle.oas_difference.specs.Choice.{chosen, or_empty}
+use Rattle.oas_diff_options.specs.Choice.{chosen, or_empty}
 use Rattle.oas_difference.specs.Options.{detailed}
 use Rattle.oas_difference.specs.Laws.OptionLaws.{SameBy, EmptyByOptions}
 use Rattle.oas_difference.proofs.BriefHeld.{first_more, second_more}

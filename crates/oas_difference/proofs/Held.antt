@@ -9,25 +9,25 @@ use Rattle.std.specs.List.Sorted.{IsStrictlySortedBy}
 use Rattle.std.specs.Map.{keys_of, lookup}
 use Rattle.std.specs.BTreeMap.{is_at}
 use Rattle.std.proofs.lemmas.List.Folds.{flat_map-map}
-use Rattle.oas_layout.specs.declared.profile.Profile.{Profile}
-use Rattle.oas_layout.specs.declared.element.Element.{Element}
-use Rattle.oas_layout.specs.Element.{element_cmp}
-use Rattle.oas_layout.specs.Laws.ElementLaws.{element_total}
-use Rattle.oas_layout.specs.Same.{IsNormal}
-use Rattle.oas_layout.specs.Bag.{items, count_at, IsBag}
-use Rattle.oas_layout.specs.Meaning.{elements_of, count_of}
-use Rattle.oas_layout.specs.Contents.{Cell, Contents, expanded, meaning_of, IsCell, IsLayout}
-use Rattle.oas_layout.proofs.LawProofs.{held}
+use Rattle.oas_elements.specs.declared.profile.Profile.{Profile}
+use Rattle.oas_elements.specs.declared.element.Element.{Element}
+use Rattle.oas_elements.specs.Element.{element_cmp}
+use Rattle.oas_elements.specs.Laws.ElementLaws.{element_total}
+use Rattle.oas_elements.specs.Same.{IsNormal}
+use Rattle.oas_elements.specs.Bag.{items, count_at, IsBag}
+use Rattle.oas_elements.specs.Meaning.{elements_of, count_of}
+use Rattle.oas_elements.specs.Contents.{Cell, Contents, expanded, meaning_of, IsCell, IsLayout}
+use Rattle.oas_elements.proofs.LawProofs.{held}
 use Rattle.oas_difference.specs.Ascending.{ascending}
 use Rattle.oas_difference.specs.Pairs.{found, side_by_side}
-use Rattle.oas_difference.specs.Choice.{or_empty}
-use Rattle.oas_difference.specs.declared.choice.ChosenLayer.{ChosenLayer}
+use Rattle.oas_diff_options.specs.Choice.{or_empty}
+use Rattle.oas_diff_options.specs.declared.choice.ChosenLayer.{ChosenLayer}
 use Rattle.oas_difference.specs.Changed.{change_at, changed}
 use Rattle.oas_difference.specs.Format.{notation_of}
 use Rattle.oas_difference.specs.Difference.{unit_changes, change_entry, below_name, cell_changes, difference}
 use Rattle.oas_difference.specs.Held.{pair_changed, held_changed, held_cell, with_empty, cell_pairs}
-use Rattle.oas_difference.specs.declared.format.Format.{Format}
-use Rattle.oas_difference.specs.declared.format.Notation.{Notation}
+use Rattle.oas_diff_options.specs.declared.format.Format.{Format}
+use Rattle.oas_difference.specs.declared.notation.Notation.{Notation}
 use Rattle.oas_difference.proofs.Ascending.{all_append, all_ascending, items_keys}
 
 map_lists : {A B : Type 0} (f g : A → List B) (xs : List A) → AllByRecursion (λ x. f x ≡ g x) xs → flat_map f xs ≡ flat_map g xs

@@ -11,33 +11,33 @@ use Rattle.std.specs.Map.{keys_of}
 use Rattle.std.proofs.lemmas.List.Sums.{sum_by-cons, sum_by-append}
 use Rattle.std.proofs.lemmas.Map.Lookups.{exact_bytes}
 use Rattle.oas_num.specs.Ratio.{Ratio}
-use Rattle.oas_layout.specs.declared.profile.Profile.{Profile}
-use Rattle.oas_layout.specs.declared.element.Element.{Element}
-use Rattle.oas_layout.specs.declared.element.Element.TheVariants.{Placement, Text, Rectangle, Polygon, Path, Circle}
-use Rattle.oas_layout.specs.Element.{element_cmp}
-use Rattle.oas_layout.specs.Laws.ElementLaws.{element_total, exact_elements}
-use Rattle.oas_layout.specs.Bag.{items}
-use Rattle.oas_layout.specs.Weight.{weight_of}
-use Rattle.oas_layout.specs.Meaning.{cells_weight}
-use Rattle.oas_layout.specs.Contents.{Cell, Contents, expanded, IsCell, IsLayout}
-use Rattle.oas_layout.specs.Laws.BagLaws.{total, sum_by-items}
+use Rattle.oas_elements.specs.declared.profile.Profile.{Profile}
+use Rattle.oas_elements.specs.declared.element.Element.{Element}
+use Rattle.oas_elements.specs.declared.element.Element.TheVariants.{Placement, Text, Rectangle, Polygon, Path, Circle}
+use Rattle.oas_elements.specs.Element.{element_cmp}
+use Rattle.oas_elements.specs.Laws.ElementLaws.{element_total, exact_elements}
+use Rattle.oas_elements.specs.Bag.{items}
+use Rattle.oas_elements.specs.Weight.{weight_of}
+use Rattle.oas_elements.specs.Meaning.{cells_weight}
+use Rattle.oas_elements.specs.Contents.{Cell, Contents, expanded, IsCell, IsLayout}
+use Rattle.oas_elements.specs.Laws.BagLaws.{total, sum_by-items}
 use Rattle.oas_difference.specs.Ascending.{ascending}
 use Rattle.oas_difference.specs.Pairs.{found}
 use Rattle.oas_difference.specs.Changed.{change_at}
-use Rattle.oas_difference.specs.Entries.{unit_entry, cell_entry, place_entry, element_entry}
+use Rattle.oas_diff_text.specs.Entries.{unit_entry, cell_entry, place_entry, element_entry}
 use Rattle.oas_difference.specs.Format.{notation_of}
 use Rattle.oas_difference.specs.Difference.{same_ratio, unit_changes, change_entry, below_name}
 use Rattle.oas_difference.specs.Brief.{only_first, only_second, brief_sign, signed_brief}
 use Rattle.oas_difference.specs.Held.{pair_changed, held_changes, held_changed, held_cell, held_brief, held_by, held_lines}
-use Rattle.oas_difference.specs.Microns.{counted_to}
-use Rattle.oas_difference.specs.declared.format.Syntax.{Syntax}
-use Rattle.oas_difference.specs.declared.format.Format.{Format}
-use Rattle.oas_difference.specs.declared.format.Notation.{Notation}
-use Rattle.oas_difference.specs.Choice.{or_empty}
-use Rattle.oas_difference.specs.declared.choice.ChosenLayer.{ChosenLayer}
-use Rattle.oas_difference.specs.declared.options.Detail.{Detail}
-use Rattle.oas_difference.specs.declared.options.Detail.TheVariants.{Elements, Counts}
-use Rattle.oas_difference.proofs.EntryLengths.{length-element_entry, length-cell_entry, length-place_entry, length-unit_entry, length-brief_entry}
+use Rattle.oas_diff_text.specs.Microns.{counted_to}
+use Rattle.oas_diff_options.specs.declared.format.Syntax.{Syntax}
+use Rattle.oas_diff_options.specs.declared.format.Format.{Format}
+use Rattle.oas_difference.specs.declared.notation.Notation.{Notation}
+use Rattle.oas_diff_options.specs.Choice.{or_empty}
+use Rattle.oas_diff_options.specs.declared.choice.ChosenLayer.{ChosenLayer}
+use Rattle.oas_diff_options.specs.declared.options.Detail.{Detail}
+use Rattle.oas_diff_options.specs.declared.options.Detail.TheVariants.{Elements, Counts}
+use Rattle.oas_diff_text.proofs.EntryLengths.{length-element_entry, length-cell_entry, length-place_entry, length-unit_entry, length-brief_entry}
 use Rattle.oas_difference.proofs.Held.{pairs_are}
 use Rattle.oas_difference.proofs.Sums.{sum_ascending, sorted_ascending, two_sums, length-texts, weight_if, entries_sum, sum_found}
 

@@ -1,14 +1,14 @@
+pub use Rattle.oas_diff_text.proofs.EntryLemmas
+pub use Rattle.oas_diff_text.proofs.MicronLemmas
 pub mod Ascending
 pub mod BriefHeld
 pub mod Chosen
 pub mod Compared
 pub mod EmptyLaw
 pub mod EmptyOptions
-pub mod EntryLengths
 pub mod Held
 pub mod Lengths
 pub mod LimitLemmas
-pub mod MicronLemmas
 pub mod Pairs
 pub mod Steps
 pub mod Sums

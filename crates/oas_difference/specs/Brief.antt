@@ -1,21 +1,19 @@
 -- The difference of two layouts in brief: for each cell that differs how many elements only one of them has.
-use Rattle.std.specs.Prelude.{ℕ, ◌-◌, ◌==◌, ◌&&◌, Bool, true, false, List, [], ◌∷◌, ◌++◌, flat_map, sum_by, codes, decimal, Option, None, Some, is_some, unwrap_or, if◌then◌else◌}
+use Rattle.std.specs.Prelude.{ℕ, ◌-◌, ◌==◌, ◌&&◌, Bool, true, false, List, [], ◌++◌, flat_map, sum_by, Option, None, Some, is_some, unwrap_or, if◌then◌else◌}
 use Rattle.std.specs.Borrow.{Bor}
 use Rattle.std.specs.Ordering.{nat_cmp}
 use Rattle.std.specs.Cmp.Lexicographic.{slice_cmp}
 use Rattle.std.specs.Map.{keys_of}
-use Rattle.oas_layout.specs.declared.profile.Profile.{Profile}
-use Rattle.oas_layout.specs.declared.element.Element.{Element}
-use Rattle.oas_layout.specs.Meaning.{Meaning, elements_of}
+use Rattle.oas_elements.specs.declared.profile.Profile.{Profile}
+use Rattle.oas_elements.specs.declared.element.Element.{Element}
+use Rattle.oas_elements.specs.Meaning.{Meaning, elements_of}
 use Rattle.oas_difference.specs.Ascending.{ascending}
 use Rattle.oas_difference.specs.Changed.{changed}
-use Rattle.oas_difference.specs.Choice.{or_empty}
+use Rattle.oas_diff_options.specs.Choice.{or_empty}
 use Rattle.oas_difference.specs.Difference.{unit_changes}
-use Rattle.oas_difference.specs.Entries.{object}
-use Rattle.oas_difference.specs.Fields.{quoted}
-use Rattle.oas_difference.specs.declared.choice.ChosenLayer.{ChosenLayer}
-use Rattle.oas_difference.specs.declared.format.Syntax.{Syntax}
-use Rattle.oas_difference.specs.declared.format.Syntax.TheVariants.{Lines, Json}
+use Rattle.oas_diff_text.specs.Entries.{brief_entry}
+use Rattle.oas_diff_options.specs.declared.choice.ChosenLayer.{ChosenLayer}
+use Rattle.oas_diff_options.specs.declared.format.Syntax.{Syntax}
 
 -- ---- the elements of a cell
 
@@ -28,16 +26,6 @@ abbrev pub only_second : List (Element × (ℕ × ℕ)) → ℕ
 only_second cs = sum_by (λ c. c.1.1 - c.1.0) cs
 
 -- ---- the cells
-
--- SIGN cell NAME - N + M
-abbrev pub brief_line : ℕ → List ℕ → ℕ → ℕ → List ℕ
-brief_line sign name n m = sign ∷ (codes " cell " ++ (name ++ ((codes " - " ++ decimal n) ++ ((codes " + " ++ decimal m) ++ 10 ∷ []))))
-
--- the line, or the object with the same fields
-abbrev pub brief_entry : Syntax → ℕ → List ℕ → ℕ → ℕ → List ℕ
-brief_entry Lines sign name n m = brief_line sign name n m
-brief_entry Json sign name n m =
-    object (codes "cell") ((codes "sign", quoted (sign ∷ [])) ∷ (codes "cell", quoted name) ∷ (codes "removed", decimal n) ∷ (codes "added", decimal m) ∷ [])
 
 -- - for a cell that is only there before, + for one that is only there after, @ for one in which something has changed
 abbrev pub brief_sign : Bool → Bool → ℕ → ℕ → Option ℕ

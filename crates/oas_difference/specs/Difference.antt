@@ -5,18 +5,18 @@ use Rattle.std.specs.Ordering.{nat_cmp}
 use Rattle.std.specs.Cmp.Lexicographic.{slice_cmp}
 use Rattle.std.specs.Map.{keys_of}
 use Rattle.oas_num.specs.Ratio.{Ratio}
-use Rattle.oas_layout.specs.declared.profile.Profile.{Profile}
-use Rattle.oas_layout.specs.declared.element.Element.{Element}
-use Rattle.oas_layout.specs.Meaning.{Meaning, elements_of}
+use Rattle.oas_elements.specs.declared.profile.Profile.{Profile}
+use Rattle.oas_elements.specs.declared.element.Element.{Element}
+use Rattle.oas_elements.specs.Meaning.{Meaning, elements_of}
 use Rattle.oas_difference.specs.Ascending.{ascending}
 use Rattle.oas_difference.specs.Changed.{changed}
-use Rattle.oas_difference.specs.Choice.{or_empty}
-use Rattle.oas_difference.specs.Entries.{unit_entry, cell_entry, place_entry, element_entry}
+use Rattle.oas_diff_options.specs.Choice.{or_empty}
+use Rattle.oas_diff_text.specs.Entries.{unit_entry, cell_entry, place_entry, element_entry}
 use Rattle.oas_difference.specs.Format.{notation_of}
-use Rattle.oas_difference.specs.declared.choice.ChosenLayer.{ChosenLayer}
-use Rattle.oas_difference.specs.declared.format.Syntax.{Syntax}
-use Rattle.oas_difference.specs.declared.format.Format.{Format}
-use Rattle.oas_difference.specs.declared.format.Notation.{Notation}
+use Rattle.oas_diff_options.specs.declared.choice.ChosenLayer.{ChosenLayer}
+use Rattle.oas_diff_options.specs.declared.format.Syntax.{Syntax}
+use Rattle.oas_diff_options.specs.declared.format.Format.{Format}
+use Rattle.oas_difference.specs.declared.notation.Notation.{Notation}
 
 -- ---- the unit
 

@@ -1,30 +1,31 @@
 -- The difference of what two layouts hold: cells and elements with their counts.
-use Rattle.std.specs.Prelude.{◌≡◌, ℕ, true, List, [], ◌∷◌, map, flat_map, cond, slice_get, Option, None, Some, is_some, unwrap_or, IfSome}
+use Rattle.std.specs.Prelude.{◌≡◌, ℕ, List, [], ◌∷◌, map, flat_map, cond, Option, None, Some, is_some, unwrap_or}
 use Rattle.std.specs.Borrow.{Bor}
-use Rattle.std.specs.List.{filter}
+use Rattle.std.specs.List.{AllByRecursion, filter}
 use Rattle.std.specs.Ordering.{nat_cmp}
 use Rattle.std.specs.Cmp.Lexicographic.{slice_cmp}
-use Rattle.oas_layout.specs.declared.element.Element.{Element}
-use Rattle.oas_layout.specs.Element.{element_cmp}
-use Rattle.oas_layout.specs.Bag.{counted}
-use Rattle.oas_layout.specs.Contents.{Cell, Contents, names}
-use Rattle.oas_difference.specs.Microns.{counted_to}
+use Rattle.oas_elements.specs.declared.element.Element.{Element}
+use Rattle.oas_elements.specs.Element.{element_cmp}
+use Rattle.oas_elements.specs.Bag.{IsTally}
+use Rattle.oas_elements.specs.Contents.{Cell, Contents}
+use Rattle.oas_diff_text.specs.Held.{name_and_elements}
+use Rattle.oas_diff_text.specs.Microns.{counted_to}
 use Rattle.oas_difference.specs.Pairs.{side_by_side}
 use Rattle.oas_difference.specs.Changed.{change_at}
 use Rattle.oas_difference.specs.Difference.{change_entry, below_name}
 use Rattle.oas_difference.specs.Brief.{only_first, only_second, brief_of}
-use Rattle.oas_difference.specs.Choice.{is_named, is_shown, or_empty}
-use Rattle.oas_difference.specs.declared.choice.Choice.{Choice}
-use Rattle.oas_difference.specs.declared.choice.ChosenLayer.{ChosenLayer}
-use Rattle.oas_difference.specs.declared.format.Syntax.{Syntax}
-use Rattle.oas_difference.specs.declared.format.Notation.{Notation}
-use Rattle.oas_difference.specs.declared.options.Detail.{Detail}
-use Rattle.oas_difference.specs.declared.options.Detail.TheVariants.{Elements, Counts}
+use Rattle.oas_diff_options.specs.Choice.{is_named, is_shown, or_empty}
+use Rattle.oas_diff_options.specs.declared.choice.Choice.{Choice}
+use Rattle.oas_diff_options.specs.declared.choice.ChosenLayer.{ChosenLayer}
+use Rattle.oas_diff_options.specs.declared.format.Syntax.{Syntax}
+use Rattle.oas_difference.specs.declared.notation.Notation.{Notation}
+use Rattle.oas_diff_options.specs.declared.options.Detail.{Detail}
+use Rattle.oas_diff_options.specs.declared.options.Detail.TheVariants.{Elements, Counts}
 
--- the first element, if there is one, and the rest
-abbrev pub in_hand : Option (Bor Element × ℕ) → List (Element × ℕ) → List (Element × ℕ)
-in_hand None rest = []
-in_hand (Some p) rest = counted p ∷ rest
+-- the first of a list, if there is one, as an iterator gives it, and the rest
+abbrev pub in_hand : {A X : Type 0} → (A → X) → Option A → List X → List X
+in_hand shows None rest = []
+in_hand shows (Some first) rest = shows first ∷ rest
 
 abbrev pub pair_changed : Element × (Option ℕ × Option ℕ) → List (Element × (ℕ × ℕ))
 pair_changed p = change_at p.0 (unwrap_or p.1.0 0) (unwrap_or p.1.1 0)
@@ -75,6 +76,7 @@ cells_chosen choice (c ∷ cs) = cond (is_named choice.cells c.0) ((c.0, element
 abbrev pub contents_chosen : Choice → Contents → Contents
 contents_chosen choice a = record a { cells = cells_chosen choice a.cells }
 
--- the cell at that place, if there is one, is compared
-abbrev pub IsNamedAt : Choice → List Cell → ℕ → Type 0
-IsNamedAt choice cs i = IfSome (slice_get (names cs) i) (λ name. is_named choice.cells name ≡ true)
+-- a cell in hand and those that are left, of which there is none where none is in hand
+pub record AreInHand (first : Option (Bor (List ℕ) × List (Element × ℕ))) (rest : List Cell) : Type 0 where
+  pub none : first ≡ None → rest ≡ []
+  pub tallies : AllByRecursion (λ c. IsTally c.1) (in_hand name_and_elements first rest)

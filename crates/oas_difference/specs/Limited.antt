@@ -1,7 +1,7 @@
 -- The first lines of a text.
 use Rattle.std.specs.Prelude.{ℕ, zero, suc, ◌==◌, Bool, true, false, List, [], ◌∷◌, ◌++◌, codes, Option, None, Some, if◌then◌else◌}
-use Rattle.oas_difference.specs.declared.format.Syntax.{Syntax}
-use Rattle.oas_difference.specs.declared.format.Syntax.TheVariants.{Lines, Json}
+use Rattle.oas_diff_options.specs.declared.format.Syntax.{Syntax}
+use Rattle.oas_diff_options.specs.declared.format.Syntax.TheVariants.{Lines, Json}
 
 -- the first n lines
 abbrev pub first_lines : ℕ → List ℕ → List ℕ

@@ -1,16 +1,16 @@
 -- What is written of a difference.
 use Rattle.std.specs.Prelude.{List, ℕ, Option}
 use Rattle.std.specs.Borrow.{Bor}
-use Rattle.oas_layout.specs.declared.profile.Profile.{Profile}
-use Rattle.oas_layout.specs.Meaning.{Meaning}
-use Rattle.oas_difference.specs.declared.choice.ChosenLayer.{ChosenLayer}
-use Rattle.oas_difference.specs.declared.format.Format.{Format}
-use Rattle.oas_difference.specs.declared.options.Detail.{Detail}
-use Rattle.oas_difference.specs.declared.options.Detail.TheVariants.{Elements, Counts}
-use Rattle.oas_difference.specs.declared.options.Options.{Options}
+use Rattle.oas_elements.specs.declared.profile.Profile.{Profile}
+use Rattle.oas_elements.specs.Meaning.{Meaning}
+use Rattle.oas_diff_options.specs.declared.choice.ChosenLayer.{ChosenLayer}
+use Rattle.oas_diff_options.specs.declared.format.Format.{Format}
+use Rattle.oas_diff_options.specs.declared.options.Detail.{Detail}
+use Rattle.oas_diff_options.specs.declared.options.Detail.TheVariants.{Elements, Counts}
+use Rattle.oas_diff_options.specs.declared.options.Options.{Options}
 use Rattle.oas_difference.specs.Difference.{difference}
 use Rattle.oas_difference.specs.Brief.{brief}
-use Rattle.oas_difference.specs.Choice.{chosen}
+use Rattle.oas_diff_options.specs.Choice.{chosen}
 use Rattle.oas_difference.specs.Limited.{limited}
 
 -- each element, or their counts alone

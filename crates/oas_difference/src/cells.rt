@@ -1,142 +1,160 @@
 //! What has changed in each cell.
 
-ghost use Rattle.std.specs.Prelude.{◌≡◌, ◌+◌, ◌<◌, ◌∷◌, [], length, drop, true, option_map, IfSome, MatchOption};
+ghost use Rattle.std.specs.Prelude.{◌≡◌, ◌+◌, ◌<◌, ◌∷◌, [], length, true, IfSome, MatchOption};
 ghost use Rattle.std.specs.Ordering.{nat_cmp};
 ghost use Rattle.std.specs.Cmp.Lexicographic.{slice_cmp};
 ghost use Rattle.std.specs.List.Sorted.{IsStrictlySortedBy};
 ghost use Rattle.std.specs.Map.{keys_of};
-ghost use Rattle.std.specs.Map.Iter.{deref};
+ghost use Rattle.std.specs.Map.Iter.{TakesFirst};
 ghost use Rattle.oas_num.specs.Writing.{Writes};
-ghost use Rattle.oas_layout.specs.Bag.{IsTally};
-ghost use Rattle.oas_layout.specs.Contents.{IsLayout};
-ghost use Rattle.oas_layout.specs.Element.{element_cmp};
+ghost use Rattle.oas_elements.specs.Bag.{IsTally};
+ghost use Rattle.oas_elements.specs.Contents.{IsLayout};
+ghost use Rattle.oas_elements.specs.Element.{element_cmp};
+ghost use Rattle.oas_diff_text.specs.Held.{name_and_elements};
 ghost use Rattle.oas_difference.specs.Difference.{below_name};
-ghost use Rattle.oas_difference.specs.Pairs.{head_key, least, taken};
-ghost use Rattle.oas_difference.specs.Held.{cell_pairs, held_by, held_cell, held_changes, held_lines, cells_chosen, IsNamedAt};
+ghost use Rattle.oas_difference.specs.Pairs.{first_order, side_by_side};
+ghost use Rattle.oas_difference.specs.Held.{cell_pairs, held_by, held_cell, held_changes, held_lines, cells_chosen};
 
 use crate::brief::put_brief_cell;
 use crate::changes::{next_change, put_change, put_changes};
-use crate::choice::{Choice, ChosenLayer, is_named};
-use crate::elements::Side;
-use crate::entries::{put_cell_entry, put_place_entry};
-use crate::format::Notation;
-use crate::options::Detail;
-use crate::shown::{Shown, or_empty};
-use oas_layout::Layout;
+use crate::elements::{ChosenElements, or_empty};
+use crate::notation::Notation;
+use crate::side::Side;
+use oas_diff_options::{Choice, ChosenLayer, Detail, is_named};
+use oas_diff_text::{Cells, Layout, put_cell_entry, put_place_entry};
 use oas_num::{Name, Sink, SinkFault};
 use std::cmp::Ordering;
 use std::marker::Model;
+use std::mem;
 
-/// The cells of a layout that are compared, from one on; contracts see the list of them.
+/// The cells of a layout that are compared, with the first of them at hand; contracts see the list of them.
 #[derive(Drop)]
-pub struct Cells<'a> {
-    layout: &'a Layout,
+pub struct ChosenCells<'a> {
+    first: Option<(&'a Name, ChosenElements<'a>)>,
+    rest: Cells<'a>,
     choice: Choice<'a>,
-    count: usize,
-    next: usize,
 }
 
-impl<'a> Model for Cells<'a> {
-    ghost use Rattle.std.specs.Prelude.{◌≡◌, List, length, drop};
-    ghost use Rattle.oas_layout.specs.Contents.{Cell};
-    ghost use Rattle.oas_difference.specs.Held.{cells_chosen, IsNamedAt};
+impl<'a> Model for ChosenCells<'a> {
+    ghost use Rattle.std.specs.Prelude.{List};
+    ghost use Rattle.oas_elements.specs.Contents.{Cell};
+    ghost use Rattle.oas_difference.specs.Held.{AreInHand, in_hand, cells_chosen};
+    ghost use Rattle.oas_diff_text.specs.Held.{name_and_elements};
 
     ghost Value = { List Cell };
 
-    ghost view = { λ c. cells_chosen c.choice (drop c.next c.layout.now.cells) };
+    ghost view = { λ c. in_hand name_and_elements c.first (cells_chosen c.choice c.rest) };
 
-    ghost invariant = { λ c. (c.count ≡ length c.layout.now.cells) × IsNamedAt c.choice c.layout.now.cells c.next };
+    ghost invariant = { λ c. AreInHand c.first (cells_chosen c.choice c.rest) };
 }
 
-impl<'a> Cells<'a> {
+impl<'a> ChosenCells<'a> {
     /// All of them.
-    pub fn new(layout: &'a Layout, choice: Choice<'a>) -> Cells<'a>
+    pub fn new(layout: &'a Layout, choice: Choice<'a>) -> ChosenCells<'a>
         ensures cells { result ≡ cells_chosen choice.entry layout.now.cells }
         ensures layout { IsLayout layout.now }
     {
-        let count = layout.cell_count();
-        Cells {
-            layout,
+        let mut rest = layout.cells();
+        let first = first_chosen(&mut rest, choice);
+        ChosenCells {
+            first,
+            rest,
             choice,
-            count,
-            next: first_named(layout, choice, 0),
         }
     }
 
-    /// The name of the first.
-    fn name(&self) -> Option<&'a Name>
-        ensures { option_map deref result ≡ head_key self.now }
+    /// How the names of the first cell here and of the first one there are ordered, where there is one; where no cell is left,
+    /// all others come first.
+    fn order(&self, other: &ChosenCells<'_>) -> Option<Ordering>
+        ensures { result ≡ first_order (slice_cmp nat_cmp) self.now other.now }
     {
-        if self.next < self.count {
-            Some(self.layout.cell_name(self.next))
-        } else {
-            None
+        match (&self.first, &other.first) {
+            (None, None) => None,
+            (Some(_), None) => Some(Ordering::Less),
+            (None, Some(_)) => Some(Ordering::Greater),
+            (Some((here, _)), Some((there, _))) => Some(here.as_bytes().cmp(there.as_bytes())),
         }
     }
 
-    /// Returns the elements of the cell with that name, where it is the first, and removes it.
-    fn take(&mut self, name: &Name) -> Option<Shown<'a>>
-        ensures elements { result ≡ (taken (slice_cmp nat_cmp) name.now self.old).0 }
-        ensures rest { self.new ≡ (taken (slice_cmp nat_cmp) name.now self.old).1 }
-        ensures tally { IfSome result IsTally }
+    /// The first of them, which is removed.
+    fn take_first(&mut self) -> Option<(&'a Name, ChosenElements<'a>)>
+        ensures first { TakesFirst name_and_elements self.old result self.new }
+        ensures tally { IfSome result (λ c. IsTally c.1) }
     {
-        if self.next >= self.count {
-            return None;
-        }
-        let first = self.layout.cell_name(self.next);
-        match name.as_bytes().cmp(first.as_bytes()) {
-            Ordering::Equal => {
-                let elements = self.layout.elements(self.next);
-                self.next = first_named(self.layout, self.choice, self.next + 1);
-                Some(Shown::new(elements, self.choice.layers))
-            }
-            _ => None,
-        }
+        let next = first_chosen(&mut self.rest, self.choice);
+        mem::replace(&mut self.first, next)
     }
 }
 
-/// The place of the first cell from one on that is compared, or a place behind all cells.
-fn first_named(layout: &Layout, choice: Choice<'_>, from: usize) -> usize
-    ensures rest { cells_chosen choice.entry (drop result layout.now.cells) ≡ cells_chosen choice.entry (drop from layout.now.cells) }
-    ensures named { IsNamedAt choice.entry layout.now.cells result }
+/// The first of the cells that is compared, removed with those before it.
+fn first_chosen<'a>(
+    cells: &mut Cells<'a>,
+    choice: Choice<'a>,
+) -> Option<(&'a Name, ChosenElements<'a>)>
+    ensures { TakesFirst name_and_elements (cells_chosen choice.entry cells.old) result (cells_chosen choice.entry cells.new) }
 {
-    let count = layout.cell_count();
-    let mut place = from;
-    while place < count {
-        if is_named(choice, layout.cell_name(place)) {
-            return place;
+    while let Some((name, elements)) = cells.next() {
+        if is_named(choice, name.as_bytes()) {
+            return Some((name, ChosenElements::new(elements, choice.layers)));
         }
-        place += 1;
     }
-    place
-}
-
-/// The lesser of two names, or the one that is there.
-fn first_name<'a>(left: Option<&'a Name>, right: Option<&'a Name>) -> Option<&'a Name>
-    ensures { option_map deref result ≡ least (slice_cmp nat_cmp) (option_map deref left.entry) (option_map deref right.entry) }
-{
-    match (left, right) {
-        (None, last) | (last, None) => last,
-        (Some(name), Some(other)) => match name.as_bytes().cmp(other.as_bytes()) {
-            Ordering::Greater => Some(other),
-            _ => Some(name),
-        },
-    }
+    None
 }
 
 /// A cell of one of two layouts, or of both: its name, and its elements where it is there.
 #[derive(Drop)]
 pub struct CellPair<'a> {
     pub name: &'a Name,
-    pub before: Option<Shown<'a>>,
-    pub after: Option<Shown<'a>>,
+    pub before: Option<ChosenElements<'a>>,
+    pub after: Option<ChosenElements<'a>>,
 }
 
-/// Removes the cell with the first name from both sides, if there is one. Where layers are named, a cell that is not there has
+/// Removes the cell with the least name from both sides, if there is one, with its elements where it is there.
+fn take_least<'a>(before: &mut ChosenCells<'a>, after: &mut ChosenCells<'a>) -> Option<CellPair<'a>>
+    requires before { IsStrictlySortedBy (slice_cmp nat_cmp) (keys_of before.old) }
+    requires after { IsStrictlySortedBy (slice_cmp nat_cmp) (keys_of after.old) }
+    ensures pair { MatchOption result (side_by_side (slice_cmp nat_cmp) before.old after.old ≡ [])
+        (λ p. side_by_side (slice_cmp nat_cmp) before.old after.old ≡ (p.name.now, (p.before, p.after)) ∷ side_by_side (slice_cmp nat_cmp) before.new after.new) }
+    ensures tally { IfSome result (λ p. IfSome p.before IsTally × IfSome p.after IsTally) }
+    ensures fewer { IfSome result (λ _. length before.new + length after.new < length before.old + length after.old) }
+    ensures before { IsStrictlySortedBy (slice_cmp nat_cmp) (keys_of before.new) }
+    ensures after { IsStrictlySortedBy (slice_cmp nat_cmp) (keys_of after.new) }
+{
+    let first = before.order(after)?;
+    match first {
+        Ordering::Less => {
+            let (name, elements) = before.take_first()?;
+            Some(CellPair {
+                name,
+                before: Some(elements),
+                after: None,
+            })
+        }
+        Ordering::Equal => {
+            let (name, elements) = before.take_first()?;
+            let (_, elements_after) = after.take_first()?;
+            Some(CellPair {
+                name,
+                before: Some(elements),
+                after: Some(elements_after),
+            })
+        }
+        Ordering::Greater => {
+            let (name, elements) = after.take_first()?;
+            Some(CellPair {
+                name,
+                before: None,
+                after: Some(elements),
+            })
+        }
+    }
+}
+
+/// Removes the cell with the least name from both sides, if there is one. Where layers are named, a cell that is not there has
 /// no elements.
 pub fn next_cell<'a>(
-    before: &mut Cells<'a>,
-    after: &mut Cells<'a>,
+    before: &mut ChosenCells<'a>,
+    after: &mut ChosenCells<'a>,
     layers: Option<&[ChosenLayer]>,
 ) -> Option<CellPair<'a>>
     requires before { IsStrictlySortedBy (slice_cmp nat_cmp) (keys_of before.old) }
@@ -148,12 +166,11 @@ pub fn next_cell<'a>(
     ensures before { IsStrictlySortedBy (slice_cmp nat_cmp) (keys_of before.new) }
     ensures after { IsStrictlySortedBy (slice_cmp nat_cmp) (keys_of after.new) }
 {
-    let name = first_name(before.name(), after.name())?;
-    let (left, right) = (before.take(name), after.take(name));
+    let pair = take_least(before, after)?;
     Some(CellPair {
-        name,
-        before: or_empty(layers, left),
-        after: or_empty(layers, right),
+        name: pair.name,
+        before: or_empty(layers, pair.before),
+        after: or_empty(layers, pair.after),
     })
 }
 
@@ -182,8 +199,8 @@ fn put_cell<'a, K: Sink>(
     sink: &mut K,
     notation: &Notation,
     name: &Name,
-    before: Option<Shown<'a>>,
-    after: Option<Shown<'a>>,
+    before: Option<ChosenElements<'a>>,
+    after: Option<ChosenElements<'a>>,
 ) -> Result<(), SinkFault>
     requires before { IfSome before IsTally }
     requires after { IfSome after IsTally }
@@ -210,8 +227,8 @@ fn put_cell<'a, K: Sink>(
 fn put_cell_by<'a, K: Sink>(
     sink: &mut K,
     name: &Name,
-    before: Option<Shown<'a>>,
-    after: Option<Shown<'a>>,
+    before: Option<ChosenElements<'a>>,
+    after: Option<ChosenElements<'a>>,
     detail: Detail,
     notation: &Notation,
 ) -> Result<(), SinkFault>
@@ -228,8 +245,8 @@ fn put_cell_by<'a, K: Sink>(
 /// Puts what has changed in each cell.
 pub(crate) fn put_cells<'a, K: Sink>(
     sink: &mut K,
-    mut before: Cells<'a>,
-    mut after: Cells<'a>,
+    mut before: ChosenCells<'a>,
+    mut after: ChosenCells<'a>,
     layers: Option<&[ChosenLayer]>,
     detail: Detail,
     notation: &Notation,

@@ -4,23 +4,63 @@ ghost use Rattle.std.specs.Prelude.{◌≡◌, ◌≢◌, ◌+◌, ◌<◌, ◌+
 ghost use Rattle.std.specs.List.Sorted.{IsStrictlySortedBy};
 ghost use Rattle.std.specs.Map.{keys_of};
 ghost use Rattle.oas_num.specs.Writing.{Writes};
-ghost use Rattle.oas_layout.specs.Element.{element_cmp};
+ghost use Rattle.oas_elements.specs.Element.{element_cmp};
 ghost use Rattle.oas_difference.specs.Changed.{change_at};
 ghost use Rattle.oas_difference.specs.Difference.{change_entry};
 ghost use Rattle.oas_difference.specs.Held.{held_changed, held_changes};
 
-use crate::elements::{Side, first_element};
-use crate::entries::put_element_entry;
-use crate::format::Notation;
-use oas_layout::Element;
+use crate::notation::Notation;
+use crate::side::Side;
+use oas_diff_text::{KeyedElement, put_element_entry, show};
 use oas_num::{Name, Sink, SinkFault};
+use std::cmp::Ordering;
 
 /// An element that is not there as often after as before.
-#[derive(Clone, Copy)]
+#[derive(Debug, Drop)]
 pub struct Change<'a> {
-    pub element: &'a Element,
+    pub element: KeyedElement<'a>,
     pub before: u64,
     pub after: u64,
+}
+
+/// Removes the least element from both sides, if there is one, with how often it is there on both.
+fn take_least<'a>(before: &mut Side<'a>, after: &mut Side<'a>) -> Option<Change<'a>>
+    requires before { IsStrictlySortedBy element_cmp (keys_of before.old) }
+    requires after { IsStrictlySortedBy element_cmp (keys_of after.old) }
+    ensures changed { MatchOption result (held_changed before.old after.old ≡ [])
+        (λ c. held_changed before.old after.old ≡ change_at c.element c.before c.after ++ held_changed before.new after.new) }
+    ensures fewer { IfSome result (λ _. length before.new + length after.new < length before.old + length after.old) }
+    ensures before { IsStrictlySortedBy element_cmp (keys_of before.new) }
+    ensures after { IsStrictlySortedBy element_cmp (keys_of after.new) }
+{
+    let first = before.order(after)?;
+    match first {
+        Ordering::Less => {
+            let (element, count) = before.take_first()?;
+            Some(Change {
+                element,
+                before: count,
+                after: 0,
+            })
+        }
+        Ordering::Equal => {
+            let (element, count) = before.take_first()?;
+            let (_, count_after) = after.take_first()?;
+            Some(Change {
+                element,
+                before: count,
+                after: count_after,
+            })
+        }
+        Ordering::Greater => {
+            let (element, count) = after.take_first()?;
+            Some(Change {
+                element,
+                before: 0,
+                after: count,
+            })
+        }
+    }
 }
 
 /// Removes elements on both sides until one is not there as often on both.
@@ -28,18 +68,13 @@ pub fn next_change<'a>(before: &mut Side<'a>, after: &mut Side<'a>) -> Option<Ch
     requires before { IsStrictlySortedBy element_cmp (keys_of before.old) }
     requires after { IsStrictlySortedBy element_cmp (keys_of after.old) }
     ensures changed { MatchOption result (held_changed before.old after.old ≡ [])
-        (λ c. held_changed before.old after.old ≡ change_at c.element.now c.before c.after ++ held_changed before.new after.new) }
+        (λ c. held_changed before.old after.old ≡ change_at c.element c.before c.after ++ held_changed before.new after.new) }
     ensures unlike { IfSome result (λ c. c.before ≢ c.after) }
     ensures fewer { IfSome result (λ _. length before.new + length after.new < length before.old + length after.old) }
     ensures before { IsStrictlySortedBy element_cmp (keys_of before.new) }
     ensures after { IsStrictlySortedBy element_cmp (keys_of after.new) }
 {
-    while let Some(element) = first_element(before.element(), after.element()) {
-        let change = Change {
-            element,
-            before: before.take(element),
-            after: after.take(element),
-        };
+    while let Some(change) = take_least(before, after) {
         if change.before != change.after {
             return Some(change);
         }
@@ -55,9 +90,9 @@ pub(crate) fn put_change<K: Sink>(
     found: Change<'_>,
 ) -> Result<(), SinkFault>
     ensures { Writes K.given K.failures sink.old
-        (change_entry notation.now name.now (found.entry.element.now, (found.entry.before, found.entry.after))) result sink.new }
+        (change_entry notation.now name.now (found.entry.element, (found.entry.before, found.entry.after))) result sink.new }
 {
-    let (syntax, element) = (notation.syntax, found.element);
+    let (syntax, element) = (notation.syntax, show(&found.element));
     if found.after < found.before {
         let count = found.before - found.after;
         put_element_entry(sink, syntax, &notation.before, name, b'-', count, element)

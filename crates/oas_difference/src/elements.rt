@@ -1,97 +1,105 @@
-//! The elements of a cell, from which those of another are removed.
+//! The elements of a cell that are compared.
 
-ghost use Rattle.std.specs.Prelude.{◌≡◌, [], unwrap_or, option_map};
-ghost use Rattle.std.specs.Map.Iter.{TakesFirst, deref};
-ghost use Rattle.oas_layout.specs.Bag.{counted};
-ghost use Rattle.oas_layout.specs.Element.{element_cmp};
-ghost use Rattle.oas_difference.specs.Pairs.{head_key, least, taken};
+ghost use Rattle.std.specs.Prelude.{◌≡◌, [], IfSome};
+ghost use Rattle.std.specs.Map.Iter.{TakesFirst};
+ghost use Rattle.oas_elements.specs.Bag.{IsTally};
+ghost use Rattle.oas_diff_options.specs.Choice.{is_shown, or_empty};
+ghost use Rattle.oas_difference.specs.Held.{elements_shown};
 
-use crate::shown::Shown;
-use oas_layout::Element;
-use std::cmp::Ordering;
+use oas_diff_options::{ChosenLayer, is_on};
+use oas_diff_text::{Elements, KeyedElement, layer_of, show};
 use std::marker::Model;
 
-/// The elements of a cell, if there is one, with the first of them at hand; contracts see the list of them.
+/// The distinct elements of a cell that are compared, ascending, each with its count; contracts see the list of those to
+/// come.
 #[derive(Drop)]
-pub struct Side<'a> {
-    first: Option<(&'a Element, u64)>,
-    rest: Option<Shown<'a>>,
+pub struct ChosenElements<'a> {
+    elements: Option<Elements<'a>>,
+    layers: Option<&'a [ChosenLayer]>,
 }
 
-impl<'a> Model for Side<'a> {
-    ghost use Rattle.std.specs.Prelude.{◌≡◌, List, [], ℕ, None, unwrap_or};
-    ghost use Rattle.oas_layout.specs.declared.element.Element.{Element};
-    ghost use Rattle.oas_difference.specs.Held.{in_hand};
+impl<'a> Model for ChosenElements<'a> {
+    ghost use Rattle.std.specs.Prelude.{List, [], ℕ, unwrap_or};
+    ghost use Rattle.oas_elements.specs.declared.element.Element.{Element};
+    ghost use Rattle.oas_difference.specs.Held.{elements_shown};
 
     ghost Value = { List (Element × ℕ) };
 
-    ghost view = { λ s. in_hand s.first (unwrap_or s.rest []) };
-
-    ghost invariant = { λ s. s.first ≡ None → unwrap_or s.rest [] ≡ [] };
+    ghost view = { λ s. elements_shown s.layers (unwrap_or s.elements []) };
 }
 
-impl<'a> Side<'a> {
-    /// All of these elements.
-    pub fn new(mut elements: Option<Shown<'a>>) -> Side<'a>
-        ensures { result ≡ unwrap_or elements.entry [] }
+impl<'a> ChosenElements<'a> {
+    /// Those of the elements that are on one of the layers; without layers all of them.
+    pub(crate) fn new(
+        elements: Elements<'a>,
+        layers: Option<&'a [ChosenLayer]>,
+    ) -> ChosenElements<'a>
+        ensures { result ≡ elements_shown layers.entry elements.entry }
     {
-        let first = next_of(&mut elements);
-        Side {
-            first,
-            rest: elements,
+        ChosenElements {
+            elements: Some(elements),
+            layers,
         }
     }
 
-    /// The first of them.
-    pub(crate) fn element(&self) -> Option<&'a Element>
-        ensures { option_map deref result ≡ head_key self.now }
+    /// No element at all.
+    fn none() -> ChosenElements<'a>
+        ensures { result ≡ [] }
     {
-        match self.first {
-            Some((element, _)) => Some(element),
+        ChosenElements {
+            elements: None,
+            layers: None,
+        }
+    }
+
+    /// The first of them, which is removed.
+    pub(crate) fn take_first(&mut self) -> Option<(KeyedElement<'a>, u64)>
+        ensures { TakesFirst (λ p. p) self.old result self.new }
+    {
+        match &mut self.elements {
+            Some(elements) => first_shown(elements, self.layers),
             None => None,
         }
     }
+}
 
-    /// How often the element is there, which is none of them except the first, and removes it.
-    pub(crate) fn take(&mut self, element: &Element) -> u64
-        ensures count { result ≡ unwrap_or (taken element_cmp element.now self.old).0 0 }
-        ensures rest { self.new ≡ (taken element_cmp element.now self.old).1 }
-    {
-        let Some((first, count)) = self.first else {
-            return 0;
-        };
-        match element.cmp(first) {
-            Ordering::Equal => {
-                self.first = next_of(&mut self.rest);
-                count
-            }
-            _ => 0,
+/// The elements of a cell, where it is there. Where layers are named, a cell that is not there has none.
+pub(crate) fn or_empty<'a>(
+    layers: Option<&[ChosenLayer]>,
+    elements: Option<ChosenElements<'a>>,
+) -> Option<ChosenElements<'a>>
+    requires { IfSome elements IsTally }
+    ensures elements { result ≡ or_empty layers.entry elements.entry }
+    ensures tally { IfSome result IsTally }
+{
+    match (layers, elements) {
+        (None, elements) => elements,
+        (Some(_), Some(chosen)) => Some(chosen),
+        (Some(_), None) => Some(ChosenElements::none()),
+    }
+}
+
+/// The first of the elements that is compared, removed with those before it.
+fn first_shown<'a>(
+    elements: &mut Elements<'a>,
+    layers: Option<&[ChosenLayer]>,
+) -> Option<(KeyedElement<'a>, u64)>
+    ensures { TakesFirst (λ p. p) (elements_shown layers.entry elements.old) result (elements_shown layers.entry elements.new) }
+{
+    while let Some(pair) = elements.next() {
+        if is_shown(layers, &pair.0) {
+            return Some(pair);
         }
     }
+    None
 }
 
-/// The next of these elements, if there are any.
-fn next_of<'a>(elements: &mut Option<Shown<'a>>) -> Option<(&'a Element, u64)>
-    ensures { TakesFirst counted (unwrap_or elements.old []) result (unwrap_or elements.new []) }
+/// Whether an element is compared. It is read from its key only where layers are named.
+fn is_shown(layers: Option<&[ChosenLayer]>, element: &KeyedElement<'_>) -> bool
+    ensures { result ≡ is_shown layers.entry element.now }
 {
-    match elements {
-        Some(rest) => rest.take_first(),
-        None => None,
-    }
-}
-
-/// The lesser of two elements, or the one that is there.
-pub(crate) fn first_element<'a>(
-    left: Option<&'a Element>,
-    right: Option<&'a Element>,
-) -> Option<&'a Element>
-    ensures { option_map deref result ≡ least element_cmp (option_map deref left.entry) (option_map deref right.entry) }
-{
-    match (left, right) {
-        (None, last) | (last, None) => last,
-        (Some(element), Some(other)) => match element.cmp(other) {
-            Ordering::Greater => Some(other),
-            _ => Some(element),
-        },
+    match layers {
+        None => true,
+        Some(layers) => is_on(layers, layer_of(&show(element))),
     }
 }

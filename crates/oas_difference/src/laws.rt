@@ -1,7 +1,7 @@
 //! The laws of differences, the contracts of functions that do nothing.
-ghost use Rattle.oas_layout.specs.declared.profile.Profile.{Profile};
-ghost use Rattle.oas_difference.specs.declared.format.Format.{Format};
-ghost use Rattle.oas_difference.specs.declared.options.Options.{Options};
+ghost use Rattle.oas_elements.specs.declared.profile.Profile.{Profile};
+ghost use Rattle.oas_diff_options.specs.declared.format.Format.{Format};
+ghost use Rattle.oas_diff_options.specs.declared.options.Options.{Options};
 ghost use Rattle.oas_difference.specs.Laws.DifferenceLaws.{EmptyIfSame};
 ghost use Rattle.oas_difference.specs.Laws.OptionLaws.{EmptyByOptions, AllByDefault};
 

@@ -20,43 +20,40 @@
 //! are the same ([`laws`]).
 //!
 //! [`Choice`] names cells and layers. Then the lines are those of what is left of both layouts without all other cells, and
-//! without the elements that are on none of these layers (`chosen`, specs/Choice.antt): placements are on no layer. Where
+//! without the elements that are on none of these layers (`chosen`, oas_diff_options): placements are on no layer. Where
 //! layers are named, only elements are compared: a cell that only one layout has is as one without elements in the other
 //! (`or_empty`), so each line of an element is below a line `@ cell NAME`.
 //!
 //! [`Format`] says how each entry is written: a line or a JSON object in a line, and lengths in grid steps or in microns
-//! (specs/Entries.antt). What is compared doesn't depend on it. [`put_length`] and [`put_microns`] put grid steps as a decimal
-//! number of microns (specs/Microns.antt).
+//! (oas_diff_text). What is compared doesn't depend on it.
 //!
 //! For other texts of a difference [`next_cell`] goes over the cells of two layouts, and [`next_change`] over the elements
 //! that are not as often in both.
 //!
 //! # How it is built
 //!
-//! oas_difference stands on oas_listing, oas_layout, oas_num, oas_ring and `itoa`. Promise upwards: `write_difference`,
-//! whose clauses speak of `difference_by`, a function of options and of what two layouts mean, and the law that by any
-//! options it is empty exactly if what they compare is the same, which holds of all meanings, in whatever order and form
-//! their elements are.
+//! oas_difference stands on oas_diff_options (what is compared), oas_diff_text (the entries) and, through these, on oas_layout and
+//! oas_listing. Promise upwards: `write_difference`, whose clauses speak of `difference_by`, a function of options and of what two
+//! layouts mean, and the law that by any options it is empty exactly if what they compare is the same, which holds of all meanings,
+//! in whatever order and form their elements are.
 //!
 //! - specs/Ascending.antt: what is in a list, ascending, each once. specs/Changed.antt: for each element of either list how
 //!   often it is in both (`count_of`, which also defines sameness), where that differs. specs/Difference.antt: an entry for
 //!   each of these, and for each name of either layout the same for its cells. No loop is in it.
-//! - specs/Entries.antt: an entry, given its format; specs/Fields.antt: its fields by name, as words or as members of an
-//!   object. src/entries.rt, kinds.rt, fields.rt, json.rt and microns.rt put them, each over any sink, and know nothing of
-//!   the walk.
-//! - src/elements.rt: the elements of a cell with the first at hand (`Side`); the lesser of two firsts is taken from both
-//!   sides (`take`). changes.rt: goes on to the next element that is not as often on both sides, so a cell without a change
-//!   gets no line. cells.rt: the same over names. writing.rt: the outlet.
+//! - src/elements.rt: the elements of a cell that are compared. side.rt: these with the first at hand (`Side`). changes.rt: two firsts
+//!   are compared once by the bytes of their keys, the lesser is taken from its side or from both, and so on to the next
+//!   element that is not as often on both sides; a cell without a change gets no line. An element is read from its key only
+//!   where it is written, or where layers are named. cells.rt: the same over names. writing.rt: what is written.
 //! - specs/Brief.antt: the same entries, summed for each cell; brief.rt walks as changes.rt does. specs/Limited.antt: the
-//!   first lines of a text, and a line that says that there are more; limiting.rt is a sink over the outlet that passes on
+//!   first lines of a text, and a line that says that there are more; limiting.rt is a sink over a sink that passes on
 //!   that many lines and forgets the rest.
 //! - specs/Pairs.antt and specs/Held.antt connect the two: two lists of entries side by side, by the keys of either, and the
 //!   difference of what two layouts hold with its counts.
 //!
 //! How the proof goes. The keys of two ascending lists in order begin with the lesser of their first keys
-//! (proofs/Ascending.antt), so the entries side by side do (`take_least`, proofs/Pairs.antt); each loop is that step, under
+//! (proofs/Ascending.antt), so the entries side by side do (`paired`, proofs/Pairs.antt); each loop is that step, under
 //! `PutSoFar` as in oas_listing. What is held means what is listed by proofs/Held.antt: in a layout each element is in its
-//! kept form, and the number beside it is its count (`held` of oas_layout). proofs/EntryLengths.antt and Lengths.antt bound
+//! kept form, and the number beside it is its count (`held` of oas_elements). proofs/EntryLengths.antt and Lengths.antt bound
 //! the length, for which no element may be weighed twice (`sum_once`); an object has its cell's name, which is shorter than
 //! a layout's weight. The law (proofs/EmptyLaw.antt) needs no order: no entry for any element of either list says that all
 //! counts are equal, since one that is the same as none of them counts 0 on both sides; and whatever the format, each entry
@@ -66,27 +63,20 @@
 mod brief;
 mod cells;
 mod changes;
-mod choice;
 mod elements;
-mod entries;
-mod fields;
-mod format;
-mod json;
-mod kinds;
 pub mod laws;
 mod limiting;
-mod microns;
-mod options;
-mod shown;
+mod notation;
+mod side;
 mod writing;
 
-pub use cells::{CellPair, Cells, next_cell};
+pub use cells::{CellPair, ChosenCells, next_cell};
 pub use changes::{Change, next_change};
-pub use choice::{Choice, ChosenLayer, layer_of};
-pub use elements::Side;
-pub use entries::kind_name;
-pub use format::{Format, Measure, PLAIN, Syntax};
-pub use microns::{put_length, put_microns};
-pub use options::{Detail, Options};
-pub use shown::Shown;
+pub use elements::ChosenElements;
+pub use side::Side;
 pub use writing::{put_difference, write_difference};
+// The crates below, for those above.
+pub use oas_diff_options::{Choice, ChosenLayer, Detail, Format, Measure, Options, PLAIN, Syntax};
+pub use oas_diff_text::{
+    Layout, ShownElement, ShownPoints, kind_name, layer_of, put_length, put_microns, show,
+};

@@ -1,25 +1,21 @@
 //! A sink that passes on the first lines.
 
 ghost use Rattle.std.specs.Prelude.{◌≡◌, false};
-ghost use Rattle.oas_num.specs.Writing.{Writes};
-ghost use Rattle.oas_num.specs.Outlets.{IsGiven, failures_of};
-ghost use Rattle.oas_difference.specs.Limited.{more_line};
 
-use crate::format::Syntax;
-use oas_num::{Device, Outlet, Sink, SinkFault};
+use oas_num::{Sink, SinkFault};
 
 /// Passes on the first lines that it is given to a sink, and drops what follows them.
 #[derive(Drop)]
-pub(crate) struct Limited<'a, W> {
-    pub(crate) sink: Outlet<'a, W>,
+pub(crate) struct Limited<'a, K> {
+    sink: &'a mut K,
     left: u64,
     is_cut: bool,
     failed: bool,
 }
 
-impl<'a, W: Device> Limited<'a, W> {
+impl<'a, K: Sink> Limited<'a, K> {
     /// A sink that passes on this many lines.
-    pub(crate) fn new(sink: Outlet<'a, W>, lines: u64) -> Limited<'a, W>
+    pub(crate) fn new(sink: &'a mut K, lines: u64) -> Limited<'a, K>
         ensures { result ≡ record { sink = sink.entry; left = lines; is_cut = false; failed = false } }
     {
         Limited {
@@ -37,29 +33,24 @@ impl<'a, W: Device> Limited<'a, W> {
         self.failed
     }
 
-    /// Puts a last line into the sink below where something was dropped.
-    pub(crate) fn put_more(&mut self, syntax: Syntax) -> Result<(), SinkFault>
-        ensures { Writes (IsGiven W.calls) failures_of self.old.sink (more_line syntax self.old.is_cut) result self.new.sink }
+    /// Whether it dropped something.
+    pub(crate) fn is_cut(&self) -> bool
+        ensures { result ≡ self.now.is_cut }
     {
-        match (self.is_cut, syntax) {
-            (false, _) => Ok(()),
-            (true, Syntax::Lines) => self.sink.put_all(b"...\n"),
-            (true, Syntax::Json) => self.sink.put_all(b"{\"kind\":\"more\"}\n"),
-        }
+        self.is_cut
     }
 }
 
-impl<W: Device> Sink for Limited<'_, W> {
-    ghost use Rattle.oas_num.specs.Outlets.{IsGiven, failures_of};
+impl<K: Sink> Sink for Limited<'_, K> {
     ghost use Rattle.oas_difference.specs.Limiting.{Passes};
     ghost use Rattle.oas_difference.specs.Laws.LimitingLaws.{Passes-none};
     ghost use Rattle.std.specs.Prelude.{if◌then◌else◌};
 
-    ghost given = { Passes (IsGiven W.calls) failures_of };
+    ghost given = { Passes K.given K.failures };
 
     ghost failures = { λ s. if s.failed then 1 else 0 };
 
-    ghost none_given = { Passes-none (IsGiven W.calls) failures_of };
+    ghost none_given = { Passes-none K.given K.failures };
 
     fn put(&mut self, byte: u8) -> Result<(), SinkFault> {
         if self.failed {

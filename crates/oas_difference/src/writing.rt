@@ -1,22 +1,20 @@
 //! Writing a difference.
 
-ghost use Rattle.std.specs.Prelude.{◌≡◌, ◌-◌, ◌^◌, ◌<◌, false, length, None, unwrap_or, IfErr, IfOk, OnOk};
-ghost use Rattle.oas_num.specs.Outlets.{IsGiven, IsSent, failures_of};
+ghost use Rattle.std.specs.Prelude.{◌≡◌, ◌^◌, ◌<◌, length, None, IfErr, IfOk};
 ghost use Rattle.oas_num.specs.Writing.{Writes};
 ghost use Rattle.oas_num.specs.Written.{IsWritten, IsCutOff};
-ghost use Rattle.oas_layout.specs.Contents.{meaning_of};
+ghost use Rattle.oas_elements.specs.Contents.{meaning_of};
 ghost use Rattle.oas_difference.specs.Difference.{unit_changes};
+ghost use Rattle.oas_difference.specs.Limited.{more_line};
 ghost use Rattle.oas_difference.specs.Options.{compared, detailed, difference_by};
-ghost use Rattle.oas_difference.specs.declared.format.TheConstants.{PLAIN};
+ghost use Rattle.oas_diff_options.specs.declared.format.TheConstants.{PLAIN};
 
-use crate::cells::{Cells, put_cells};
-use crate::choice::Choice;
-use crate::entries::put_unit_entry;
-use crate::format::{Notation, PLAIN, Syntax};
+use crate::cells::{ChosenCells, put_cells};
 use crate::limiting::Limited;
-use crate::options::{Detail, Options};
-use oas_layout::Layout;
-use oas_num::{Device, Fraction, Outlet, Refusal, Sink, SinkFault, Why};
+use crate::notation::Notation;
+use oas_diff_options::{Choice, Detail, Options, PLAIN, Syntax};
+use oas_diff_text::{Layout, put_unit_entry};
+use oas_num::{Content, Device, Fraction, Refusal, Sink, SinkFault, write_content};
 
 /// Puts the entries of two units that differ.
 fn put_units<K: Sink>(
@@ -45,8 +43,8 @@ fn put_compared<'a, K: Sink>(
     ensures writes { Writes K.given K.failures sink.old (compared options.entry before.now.profile (meaning_of before.now) (meaning_of after.now)) result sink.new }
     ensures short { length (compared options.entry before.now.profile (meaning_of before.now) (meaning_of after.now)) < 2 ^ 63 }
 {
-    let left = Cells::new(before, options.choice);
-    let right = Cells::new(after, options.choice);
+    let left = ChosenCells::new(before, options.choice);
+    let right = ChosenCells::new(after, options.choice);
     let notation = Notation::new(options.format, before.unit(), after.unit());
     put_units(sink, options.format.syntax, before.unit(), after.unit())?;
     put_cells(
@@ -80,27 +78,42 @@ pub fn put_difference<'a, K: Sink>(
     put_compared(sink, before, after, options)
 }
 
-/// Puts the first lines of the difference of two layouts into an outlet, and sends all of it to the writer.
-fn put_and_close<W: Device>(
-    before: &Layout,
-    after: &Layout,
-    options: Options<'_>,
-    lines: &mut Limited<'_, W>,
-) -> Result<(), SinkFault>
-    requires profile { before.now.profile ≡ after.now.profile }
-    requires left { lines.old.left ≡ unwrap_or options.limit (2 ^ 64 - 1) }
-    requires whole { lines.old.is_cut ≡ false }
-    requires works { lines.old.failed ≡ false }
-    ensures writes { Writes (IsGiven W.calls) failures_of lines.old.sink (difference_by options.entry before.now.profile (meaning_of before.now) (meaning_of after.now)) result lines.new.sink }
-    ensures all { OnOk result (IsSent lines.new.sink) }
-    ensures short { length (difference_by options.entry before.now.profile (meaning_of before.now) (meaning_of after.now)) < 2 ^ 64 }
+/// Puts a line that says that there is more, where something was dropped.
+fn put_more<K: Sink>(sink: &mut K, syntax: Syntax, is_cut: bool) -> Result<(), SinkFault>
+    ensures { Writes K.given K.failures sink.old (more_line syntax is_cut) result sink.new }
 {
-    put_compared(lines, before, after, options)?;
-    if lines.has_failed() {
-        return Err(SinkFault::Device);
+    match (is_cut, syntax) {
+        (false, _) => Ok(()),
+        (true, Syntax::Lines) => sink.put_all(b"...\n"),
+        (true, Syntax::Json) => sink.put_all(b"{\"kind\":\"more\"}\n"),
     }
-    lines.put_more(options.format.syntax)?;
-    lines.sink.close()
+}
+
+/// The difference of two layouts of one profile, as content.
+#[derive(Drop)]
+struct Difference<'a> {
+    before: &'a Layout,
+    after: &'a Layout,
+    options: Options<'a>,
+    ghost profile: { before.now.profile ≡ after.now.profile },
+}
+
+impl Content for Difference<'_> {
+    ghost use Rattle.oas_elements.specs.Contents.{meaning_of};
+    ghost use Rattle.oas_difference.specs.Options.{difference_by};
+
+    ghost bytes = { λ d. difference_by d.options d.before.now.profile (meaning_of d.before.now) (meaning_of d.after.now) };
+
+    fn put_into<K: Sink>(&self, sink: &mut K) -> Result<(), SinkFault> {
+        let options = self.options;
+        let mut lines = Limited::new(sink, options.limit.unwrap_or(u64::MAX));
+        put_compared(&mut lines, self.before, self.after, options)?;
+        if lines.has_failed() {
+            return Err(SinkFault::Device);
+        }
+        let is_cut = lines.is_cut();
+        put_more(sink, options.format.syntax, is_cut)
+    }
 }
 
 /// Writes the difference of two layouts of one profile as the options say, and returns how many bytes that is: none exactly
@@ -118,12 +131,10 @@ pub fn write_difference<W: Device>(
     ensures written { IfOk result (IsWritten W.calls writer.old (difference_by options.entry before.now.profile (meaning_of before.now) (meaning_of after.now)) writer.new) }
     ensures refused { IfErr result (IsCutOff W.calls writer.old (difference_by options.entry before.now.profile (meaning_of before.now) (meaning_of after.now)) writer.new) }
 {
-    let mut lines = Limited::new(Outlet::new(writer), options.limit.unwrap_or(u64::MAX));
-    match put_and_close(before, after, options, &mut lines) {
-        Ok(()) => Ok(lines.sink.taken()),
-        Err(_) => Err(Refusal {
-            at: lines.sink.taken(),
-            why: Why::Write,
-        }),
-    }
+    let difference = Difference {
+        before,
+        after,
+        options,
+    };
+    write_content(&difference, writer)
 }

@@ -13,7 +13,7 @@ use Rattle.oas_shape.specs.declared.repetitions.Repetition.{Repetition}
 use Rattle.oas_shape.specs.Places.{ArePlaces}
 use Rattle.oas_shape.specs.Laws.PlaceLaws.{apart, places}
 use Rattle.oas_record.specs.declared.records.Record.{Record}
-use Rattle.oas_layout.specs.declared.limits.Limits.{Limits}
+use Rattle.oas_elements.specs.declared.limits.Limits.{Limits}
 use Rattle.oas_drawing.specs.declared.drawn.Drawn.{Drawn}
 use Rattle.oas_drawing.specs.declared.kinds.Kind.{Kind}
 use Rattle.oas_drawing.specs.Modal.{ModalState}

@@ -8,7 +8,7 @@ use Rattle.oas_num.specs.declared.refusals.Why.TheVariants.{CoordinateRange, Mem
 use Rattle.oas_ring.specs.declared.point.Point.{Point}
 use Rattle.oas_shape.specs.Steps.{IsBounded, IsInRange, moved, still}
 use Rattle.oas_shape.specs.Polylines.{Polyline, vertices_of, VerticesMay}
-use Rattle.oas_layout.specs.Grid.{is_coordinate, is_grid_point}
+use Rattle.oas_elements.specs.Grid.{is_coordinate, is_grid_point}
 use Rattle.oas_drawing.specs.declared.positions.Position.{Position}
 use Rattle.oas_drawing.specs.Positions as positions
 use Rattle.oas_drawing.specs.declared.drawn.Drawn.{Drawn}

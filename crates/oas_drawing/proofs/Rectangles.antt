@@ -3,8 +3,8 @@ use Rattle.std.proofs.Common.{◌≡◌, ℕ, ap, ◌∙◌, Bool, true, false}
 use Rattle.std.specs.Prelude.{Option, None, Some, [], ◌∷◌, ◌&&◌, not}
 use Rattle.oas_num.specs.declared.refusals.Why.TheVariants.{CoordinateRange}
 use Rattle.oas_shape.specs.Steps.{still}
-use Rattle.oas_layout.specs.declared.limits.Limits.{Limits}
-use Rattle.oas_layout.specs.Grid.{is_coordinate}
+use Rattle.oas_elements.specs.declared.limits.Limits.{Limits}
+use Rattle.oas_elements.specs.Grid.{is_coordinate}
 use Rattle.oas_drawing.specs.declared.drawn.Drawn.{Drawn}
 use Rattle.oas_drawing.specs.declared.kinds.Kind.TheVariants.{Rectangle}
 use Rattle.oas_drawing.specs.declared.positions.Position.{Position}

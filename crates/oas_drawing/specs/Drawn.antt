@@ -2,9 +2,9 @@
 use Rattle.std.specs.Prelude.{ℕ, ◌&&◌, Bool, false}
 use Rattle.std.specs.Ordering.{nat_cmp, int_cmp, bool_cmp}
 use Rattle.std.specs.declared.cmp.Ordering.{Ordering}
-use Rattle.oas_layout.specs.Element.{element_cmp, turn_count, ◌then◌}
-use Rattle.oas_layout.specs.Weight.{weight_of, lacks_points}
-use Rattle.oas_layout.specs.Grid.{is_coordinate, fits_grid}
+use Rattle.oas_elements.specs.Element.{element_cmp, turn_count, ◌then◌}
+use Rattle.oas_elements.specs.Weight.{weight_of, lacks_points}
+use Rattle.oas_elements.specs.Grid.{is_coordinate, fits_grid}
 use Rattle.oas_drawing.specs.declared.drawn.Drawn.{Drawn}
 use Rattle.oas_drawing.specs.declared.drawn.Drawn.TheVariants.{Named, PlacementBy, TextBy}
 

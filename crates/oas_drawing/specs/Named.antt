@@ -6,7 +6,7 @@ use Rattle.oas_record.specs.declared.references.CellRef.TheVariants as cell
 use Rattle.oas_record.specs.declared.references.TextRef.{TextRef}
 use Rattle.oas_record.specs.declared.references.TextRef.TheVariants as text
 use Rattle.oas_record.specs.declared.placements.Turn.TheVariants.{Quarters}
-use Rattle.oas_layout.specs.declared.element.Element.TheVariants as element
+use Rattle.oas_elements.specs.declared.element.Element.TheVariants as element
 use Rattle.oas_peek.specs.Named.{cell_given, string_given}
 use Rattle.oas_peek.specs.declared.named.NamedOnce.{NamedOnce}
 use Rattle.oas_peek.specs.declared.named.NamedOnce.TheVariants as once

@@ -7,10 +7,10 @@ use Rattle.oas_num.specs.declared.refusals.Why.TheVariants.{ModalUndefined, Magn
 use Rattle.oas_shape.specs.Steps.{still}
 use Rattle.oas_record.specs.declared.placements.Turn.TheVariants.{Degrees}
 use Rattle.oas_record.specs.declared.records.Record.{Record}
-use Rattle.oas_layout.specs.declared.element.Element.TheVariants as element
-use Rattle.oas_layout.specs.declared.limits.Limits.{Limits}
-use Rattle.oas_layout.specs.Weight.{lacks_points}
-use Rattle.oas_layout.specs.Grid.{is_coordinate}
+use Rattle.oas_elements.specs.declared.element.Element.TheVariants as element
+use Rattle.oas_elements.specs.declared.limits.Limits.{Limits}
+use Rattle.oas_elements.specs.Weight.{lacks_points}
+use Rattle.oas_elements.specs.Grid.{is_coordinate}
 use Rattle.oas_drawing.specs.declared.drawn.Drawn.{Drawn}
 use Rattle.oas_drawing.specs.declared.drawn.Drawn.TheVariants.{Named}
 use Rattle.oas_drawing.specs.declared.kinds.Kind.{Kind}

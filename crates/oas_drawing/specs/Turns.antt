@@ -3,8 +3,8 @@ use Rattle.std.specs.Prelude.{ℕ, ◌*◌, ◌/◌, ◌%◌, ◌==◌, ◌&&◌
 use Rattle.oas_num.specs.declared.reals.Real.{Real}
 use Rattle.oas_record.specs.declared.placements.Turn.{Turn}
 use Rattle.oas_record.specs.declared.placements.Turn.TheVariants.{Quarters, Degrees}
-use Rattle.oas_layout.specs.declared.element.Turns.{Turns}
-use Rattle.oas_layout.specs.declared.element.Turns.TheVariants.{T0, T1, T2, T3}
+use Rattle.oas_elements.specs.declared.element.Turns.{Turns}
+use Rattle.oas_elements.specs.declared.element.Turns.TheVariants.{T0, T1, T2, T3}
 
 -- whether a magnification is 1, as it is where it isn't given
 abbrev pub is_one : Option Real → Bool

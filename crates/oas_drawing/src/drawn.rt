@@ -1,6 +1,6 @@
 //! Elements as records give them.
 
-use oas_layout::{Element, Turns};
+use oas_elements::{Element, Turns};
 
 /// An element as a record gives it, where the placed cell or the string may still be a number, to be looked up when the whole
 /// file was read. Places are in grid steps.

@@ -8,7 +8,7 @@ ghost use Rattle.oas_record.specs.declared.references.TextRef.{TextRef};
 ghost use Rattle.oas_record.specs.declared.records.Record.{Record as OneRecord};
 ghost use Rattle.std.specs.Option.{option_to_list};
 ghost use Rattle.oas_num.specs.declared.refusals.Why.{Why};
-ghost use Rattle.oas_layout.specs.declared.limits.Limits.{Limits};
+ghost use Rattle.oas_elements.specs.declared.limits.Limits.{Limits};
 ghost use Rattle.oas_drawing.specs.declared.kinds.Kind.{Kind};
 ghost use Rattle.oas_drawing.specs.Drawing.{kind_of, repeats, number_if, offset_if, places_if, first_offsets, drawn_by, drawn_at, copies_at, elements_at};
 ghost use Rattle.oas_drawing.specs.Reasons.{fault_of, kind_reason, draw_reason};

@@ -23,7 +23,7 @@
 //!
 //! # How it is built
 //!
-//! oas_drawing uses oas_num, oas_ring, oas_shape, oas_record and oas_layout. What it promises to the crates above: after any
+//! oas_drawing uses oas_num, oas_ring, oas_shape, oas_record and oas_elements. What it promises to the crates above: after any
 //! records the modal variables are those of the definitions; and what a record draws, or why it is refused, depends on the
 //! variables after it.
 //!

@@ -5,7 +5,7 @@ ghost use Rattle.oas_drawing.specs.Drawing.{placement_at, text_at};
 ghost use Rattle.oas_drawing.specs.Named.{drawn_once};
 
 use crate::drawn::Drawn;
-use oas_layout::{Element, Turns};
+use oas_elements::{Element, Turns};
 use oas_record::{CellRef, TextRef};
 use std::alloc::{AllocError, Global};
 

@@ -4,7 +4,7 @@ ghost use Rattle.oas_drawing.specs.Turns.{is_one, is_quarters, turns_by, turned}
 ghost use Rattle.oas_drawing.specs.Reasons.{is_magnified, is_askew};
 
 use crate::kinds::Kind;
-use oas_layout::Turns;
+use oas_elements::Turns;
 use oas_num::Real;
 use oas_record::Turn;
 

@@ -1,4 +1,4 @@
+pub use Rattle.oas_command.proofs.MessageLemmas
 mod HearingLemmas
 mod FindLemmas
 mod TellLemmas
-pub use Rattle.oas_command.proofs as oas_command_proofs

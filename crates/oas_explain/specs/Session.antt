@@ -1,6 +1,6 @@
 -- What holds for all runs of a command line.
 use Rattle.std.specs.Prelude.{◌≡◌, ◌^◌, Bool, true, false}
-use Rattle.oas_layout.specs.Limits.{AreLimits}
+use Rattle.oas_elements.specs.Limits.{AreLimits}
 use Rattle.oas_explain.specs.declared.session.Session.{Session}
 
 -- the limits of `--large`, or those without it; refusals are explained and progress is shown where that is asked for

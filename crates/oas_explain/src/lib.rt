@@ -43,11 +43,18 @@ pub use advice::{Asked, Onward, advise};
 pub use explain::run_explain;
 pub use many::{OfEach, OfItem, of_all, of_items, of_listed};
 pub use naming::{CANONICAL, Named, Pair, label_of};
-pub use oas_command;
-pub use oas_command::oas_canon;
-pub use oas_files;
+pub use oas_command::{
+    Choice, Detail, Device, End, Form, KeptKey, Label, Layout, Limits, Options, Outlet, PLAIN,
+    PROFILE, PairWork, ReaderSource, Sink, SliceSource, Source, Which, Why, Work,
+    has_canonical_bytes, kept_telling, layout_key, marking_telling, name_of, pair_work_telling,
+    run_refused, run_unopened, status_of_verdict, work_telling, write_named_check, write_named_key,
+    write_sameness,
+};
+pub use oas_files::{
+    Existing, Input, Output, Printed, file_of_word, is_same_file, is_taken, mark_output,
+    progress as files_progress, text_of, unescaped,
+};
 pub use oas_num::Reason;
-pub use oas_progress;
 pub use outcome::{Outcome, ended};
 pub use reasons::all_reasons;
 pub use recording::Recorded;

@@ -2,8 +2,7 @@
 
 use crate::outcome::Outcome;
 use crate::session::Session;
-use oas_command::oas_canon::{Refusal, Why};
-use oas_command::{name_of, worse};
+use oas_command::{Refusal, Why, name_of, worse};
 use oas_files::{Input, Names, text_of};
 
 /// The status where there is nothing to do.

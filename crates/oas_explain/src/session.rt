@@ -1,17 +1,16 @@
 //! What each run is given in addition to its files: limits, progress, and how messages are printed.
 
 ghost use Rattle.std.specs.Prelude.{IfOk};
-ghost use Rattle.oas_command.specs.oas_canon.Opening.{IsOpened};
+ghost use Rattle.oas_command.specs.Opening.{IsOpened};
 ghost use Rattle.oas_files.specs.Creating.{IsOutput};
 
 use crate::advice::{Asked, advise};
 use crate::recording::Recorded;
 use crate::voice::Voice;
-use oas_command::limits_of;
-use oas_command::oas_canon::{Limits, ReaderSource, Refusal, Why, open_source};
+use oas_command::{Limits, ReaderSource, Refusal, Why, limits_of, open_source};
+use oas_files::progress::{Meter, Reading, Style, Writing};
 use oas_files::{Existing, Input, Output, Printed, is_input_marked};
 use oas_num::NotedWriter;
-use oas_progress::{Meter, Reading, Style, Writing};
 use std::io;
 use std::io::{ErrorKind, IsTerminal, Stderr};
 

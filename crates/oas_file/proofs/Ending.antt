@@ -15,19 +15,19 @@ use Rattle.oas_record.specs.declared.records.Record.{Record}
 use Rattle.oas_record.specs.declared.records.Record.TheVariants.{End}
 use Rattle.oas_record.specs.Heads.{head_in}
 use Rattle.oas_record.specs.Records.{record_in}
-use Rattle.oas_layout.specs.declared.limits.Limits.{Limits}
-use Rattle.oas_layout.specs.declared.profile.Profile.{Profile}
-use Rattle.oas_layout.specs.Contents.{Contents, IsLayout, meaning_of}
-use Rattle.oas_layout.specs.Meaning.{Meaning, SameLayout}
-use Rattle.oas_modal.specs.Stores.{Store}
-use Rattle.oas_modal.specs.Stands.{ReaderState, Represents, records_mean, end_refusal}
+use Rattle.oas_elements.specs.declared.limits.Limits.{Limits}
+use Rattle.oas_elements.specs.declared.profile.Profile.{Profile}
+use Rattle.oas_elements.specs.Contents.{Contents, IsLayout, meaning_of}
+use Rattle.oas_elements.specs.Meaning.{Meaning, SameLayout}
+use Rattle.oas_reader.specs.Stores.{Store}
+use Rattle.oas_reader.specs.Stands.{ReaderState, Represents, records_mean, end_refusal}
 use Rattle.oas_file.specs.Files.{Parts, FileOf, PrefixOf}
 use Rattle.oas_file.specs.Laws.FileLaws.{PrefixFree-file}
 use Rattle.oas_file.specs.Acceptance.{Allowed}
 use Rattle.oas_file.specs.Deciding.{TheTail, TheWhole, EndingMay, IsReasoned}
 use Rattle.oas_file.specs.Gathering.{HasBegun, HasAll, MissesEnd}
 use Rattle.oas_file.specs.Places.{RefusedAt, AfterLast, ByEnd}
-use Rattle.oas_file.specs.Reading.{IsRead, IsRefused, IsPlaced, Refuses, ReadsLayout, IsAccepted, AcceptsFile}
+use Rattle.oas_file.specs.Reading.{IsRead, IsRefused, IsPlaced, Refuses, ReadsLayout}
 use Rattle.oas_file.proofs.Judged.{end_decides}
 use Rattle.oas_file.proofs.Refusing.{Judges, ForMemory, Decided, judged_refused, memory_placed}
 
@@ -255,26 +255,10 @@ module _ {C : Type 0} {t : Store C} {old mid : Script} {head : Head} {first s : 
           by = profile_kept ∙ (kept.profile ∙ by);
         }
 
-    -- it is accepted
-    whole_accepted : {limits : Limits} → first.limits ≡ limits → end_refusal s.limits m.records ≡ None → IsAccepted limits old new
-    whole_accepted {limits = limits} within none = record {
-      bytes = all;
-      takes = taken_all takes;
-      ended = at_end;
-      accepted = record {
-        head = head;
-        records = m.records;
-        file = file_all m.front m.end;
-        allowed = subst (λ (l : Limits). Allowed l m.records) within m.taken.allowed;
-        whole = ap (λ (l : Limits). end_refusal l m.records) (sym (m.taken.same.limits ∙ within)) ∙ none;
-      };
-    }
-
-    -- what accepting returns
-    pub accepted : {limits : Limits} (result : Result Unit Refusal) → first.limits ≡ limits → OnOk result (end_refusal s.limits m.records ≡ None)
-        → IfErr result (λ e. (e.at ≡ end_at) × ((e.why ≡ Memory) ⊎ (end_refusal s.limits m.records ≡ Some e.why))) → AcceptsFile limits old result new
-    accepted (Ok done) within none refused = whole_accepted within none
-    accepted (Err refusal) within none refused = refuses_within within (whole_refuses refusal refused)
+    -- what END refuses, within limits that are the reader's
+    pub end_refuses : {limits : Limits} (refusal : Refusal) → first.limits ≡ limits → (refusal.at ≡ end_at) × ((refusal.why ≡ Memory) ⊎ (end_refusal s.limits m.records ≡ Some refusal.why)) →
+        Refuses limits old refusal new
+    end_refuses refusal within refused = refuses_within within (whole_refuses refusal refused)
 
     -- what finishing returns
     pub finished : {limits : Limits} {profile : Profile} (result : Result Contents Refusal) → first.unit ≡ head.unit → first.limits ≡ limits → first.profile ≡ profile →
@@ -282,4 +266,4 @@ module _ {C : Type 0} {t : Store C} {old mid : Script} {head : Head} {first s : 
         → IfOk result (λ l. SameLayout s.profile (meaning_of l) (records_mean s.unit m.records)) → IfOk result (λ l. IsLayout l) → IfOk result (λ l. l.limits ≡ s.limits) → IfOk result (λ l. l.profile ≡ s.profile)
         → IfErr result (λ e. (e.at ≡ end_at) × ((e.why ≡ Memory) ⊎ (end_refusal s.limits m.records ≡ Some e.why))) → ReadsLayout limits profile old result new
     finished (Ok l) unit within by none same held limits_kept profile_kept refused = whole_read within by unit none same held limits_kept profile_kept
-    finished (Err refusal) unit within by none same held limits_kept profile_kept refused = refuses_within within (whole_refuses refusal refused)
+    finished (Err refusal) unit within by none same held limits_kept profile_kept refused = end_refuses refusal within refused

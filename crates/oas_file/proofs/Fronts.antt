@@ -12,9 +12,9 @@ use Rattle.oas_record.specs.Heads.{magic, IsMagic, start_in, head_in}
 use Rattle.oas_record.specs.Laws.HeadLaws.{PrefixFree-head}
 use Rattle.oas_record.specs.Records.{record_in}
 use Rattle.oas_record.specs.Laws.RecordLaws.{PrefixFree-record, PrefixFree-inner}
-use Rattle.oas_layout.specs.declared.limits.Limits.{Limits}
-use Rattle.oas_modal.specs.Stands as stands
-use Rattle.oas_modal.specs.Stands.{refusal}
+use Rattle.oas_elements.specs.declared.limits.Limits.{Limits}
+use Rattle.oas_reader.specs.Stands as stands
+use Rattle.oas_reader.specs.Stands.{refusal}
 use Rattle.oas_file.specs.Files.{Parts, file_in, FileOf, PrefixOf}
 use Rattle.oas_file.specs.Acceptance.{Allowed, Accepted}
 use Rattle.oas_file.specs.Gathering.{inner_in}

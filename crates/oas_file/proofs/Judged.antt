@@ -9,17 +9,17 @@ use Rattle.oas_num.specs.Reading.{is_format, is_cut}
 use Rattle.oas_shape.specs.Steps.{still}
 use Rattle.oas_record.specs.declared.records.Record.{Record}
 use Rattle.oas_record.specs.declared.records.Record.TheVariants as record_of
-use Rattle.oas_layout.specs.declared.limits.Limits.{Limits}
-use Rattle.oas_layout.specs.Meaning.{cells_weight}
-use Rattle.oas_modal.specs.oas_drawing.declared.kinds.Kind.{Kind}
-use Rattle.oas_modal.specs.oas_drawing.Drawing.{kind_of, repeats, elements_at, drawn_by, place_of, number_if, lacks_repetition}
-use Rattle.oas_modal.specs.oas_drawing.Modal.{ModalState, stepped}
-use Rattle.oas_modal.specs.oas_drawing.Reasons.{first_of, kind_reason, reason_if, is_magnified, is_askew, weight_if, lacks_if, is_on_grid, all_fit}
-use Rattle.oas_modal.specs.oas_names.declared.names.Numbering.{Numbering}
-use Rattle.oas_modal.specs.oas_names.Names.{is_mixed, numbering_given, is_other, name_of, cell_names, text_strings, same_string, reason_given, numbering_of, next_number, named}
-use Rattle.oas_modal.specs.oas_names.Meaning.{DrawnCell, cells_by_name, lacks_name, has_twice, end_reason, cells_drawn}
-use Rattle.oas_modal.specs.Standing.{Standing, cell_weight, element_reason}
-use Rattle.oas_modal.specs.Stands.{seen, refused_after, refusal, end_refusal}
+use Rattle.oas_elements.specs.declared.limits.Limits.{Limits}
+use Rattle.oas_elements.specs.Meaning.{cells_weight}
+use Rattle.oas_reader.specs.Kind.{Kind}
+use Rattle.oas_reader.specs.Drawing.{kind_of, repeats, elements_at, drawn_by, place_of, number_if, lacks_repetition}
+use Rattle.oas_reader.specs.Modal.{ModalState, stepped}
+use Rattle.oas_reader.specs.Reasons.{first_of, kind_reason, reason_if, is_magnified, is_askew, weight_if, lacks_if, is_on_grid, all_fit}
+use Rattle.oas_reader.specs.declared.names.Numbering.{Numbering}
+use Rattle.oas_reader.specs.Names.{is_mixed, numbering_given, is_other, name_of, cell_names, text_strings, same_string, reason_given, numbering_of, next_number, named}
+use Rattle.oas_reader.specs.Meaning.{DrawnCell, cells_by_name, lacks_name, has_twice, end_reason, cells_drawn}
+use Rattle.oas_reader.specs.Standing.{Standing, cell_weight, element_reason}
+use Rattle.oas_reader.specs.Stands.{seen, refused_after, refusal, end_refusal}
 use Rattle.oas_file.specs.Reading.{decides, is_of_file}
 
 -- ---- what a reason of the bytes isn't

@@ -1,3 +1,9 @@
+pub use Rattle.oas_reader.proofs.AllKinds
+pub use Rattle.oas_reader.proofs.DrawLemmas
+pub use Rattle.oas_reader.proofs.FinishLemmas
+pub use Rattle.oas_reader.proofs.Grids
+pub use Rattle.oas_reader.proofs.Steps
+pub use Rattle.oas_reader.proofs.TakeLemmas
 pub mod Fronts
 pub mod PlaceLaws
 pub mod SomePlaces
@@ -6,5 +12,3 @@ pub mod Judged
 pub mod Refusing
 pub mod Taking
 pub mod Ending
-pub use Rattle.oas_modal.proofs.oas_drawing_proofs
-pub use Rattle.oas_modal.proofs as oas_modal_proofs

@@ -9,7 +9,7 @@ use Rattle.oas_record.specs.declared.records.Record.TheVariants.{End}
 use Rattle.oas_record.specs.Heads.{magic}
 use Rattle.oas_record.specs.Records.{record_in}
 use Rattle.oas_record.specs.Laws.RecordLaws.{PrefixFree-record}
-use Rattle.oas_layout.specs.declared.limits.Limits.{Limits}
+use Rattle.oas_elements.specs.declared.limits.Limits.{Limits}
 use Rattle.oas_file.specs.Files.{PrefixOf}
 use Rattle.oas_file.specs.Acceptance.{Allowed, IsWhole, Accepted}
 use Rattle.oas_file.specs.Places.{AtMagic, AtStart, AtRecord, AfterEnd, AtEnd, ByMagic, ByStart, ByRecord, AfterLast, ByEnd, OnePlace, NoPlace}

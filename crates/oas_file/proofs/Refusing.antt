@@ -16,7 +16,7 @@ use Rattle.oas_record.specs.declared.records.Record.{Record}
 use Rattle.oas_record.specs.Heads.{magic, MagicMay, StartTook, RefusesMagic, RefusesStart}
 use Rattle.oas_record.specs.Records.{record_in}
 use Rattle.oas_record.specs.Refusals.{RecordTook}
-use Rattle.oas_layout.specs.declared.limits.Limits.{Limits}
+use Rattle.oas_elements.specs.declared.limits.Limits.{Limits}
 use Rattle.oas_file.specs.Files.{file_in, PrefixOf}
 use Rattle.oas_file.specs.Acceptance.{Allowed, Accepted}
 use Rattle.oas_file.specs.Deciding.{TheMagic, TheStart, TheRecord}

@@ -9,8 +9,8 @@ use Rattle.oas_record.specs.declared.records.Record.{Record}
 use Rattle.oas_record.specs.declared.records.Record.TheVariants.{End}
 use Rattle.oas_record.specs.Heads.{magic}
 use Rattle.oas_record.specs.Records.{record_in}
-use Rattle.oas_layout.specs.declared.limits.Limits.{Limits}
-use Rattle.oas_modal.specs.Stands.{refusal, end_refusal}
+use Rattle.oas_elements.specs.declared.limits.Limits.{Limits}
+use Rattle.oas_reader.specs.Stands.{refusal, end_refusal}
 use Rattle.oas_file.specs.Files.{FileOf}
 use Rattle.oas_file.specs.Acceptance.{Accepted}
 use Rattle.oas_file.specs.Places.{IsBefore, RefusedAt, ByMagic, ByStart, ByRecord, AfterLast, ByEnd, SomePlace}

@@ -22,10 +22,10 @@ use Rattle.oas_peek.specs.Figures.{IsPeekedFigure}
 use Rattle.oas_record.specs.Records.{record_in, IsInner}
 use Rattle.oas_record.specs.Laws.RecordLaws.{PrefixFree-record}
 use Rattle.oas_record.specs.Refusals.{RecordTook}
-use Rattle.oas_layout.specs.declared.limits.Limits.{Limits}
-use Rattle.oas_modal.specs.Standing.{MayRunOut}
-use Rattle.oas_modal.specs.Stores.{Store}
-use Rattle.oas_modal.specs.Stands.{ReaderState, Represents, refusal as refusal_of}
+use Rattle.oas_elements.specs.declared.limits.Limits.{Limits}
+use Rattle.oas_reader.specs.Standing.{MayRunOut}
+use Rattle.oas_reader.specs.Stores.{Store}
+use Rattle.oas_reader.specs.Stands.{ReaderState, Represents, refusal as refusal_of}
 use Rattle.oas_file.specs.Files.{PrefixOf}
 use Rattle.oas_file.specs.Acceptance.{Allowed}
 use Rattle.oas_file.specs.Deciding.{TheNext, IsReasoned}

@@ -2,9 +2,9 @@
 use Rattle.std.specs.Prelude.{◌≡◌, ℕ, List, reverse, None}
 use Rattle.oas_record.specs.declared.heads.Head.{Head}
 use Rattle.oas_record.specs.declared.records.Record.{Record}
-use Rattle.oas_layout.specs.declared.limits.Limits.{Limits}
-use Rattle.oas_layout.specs.Meaning.{Meaning}
-use Rattle.oas_modal.specs.Stands as stands
+use Rattle.oas_elements.specs.declared.limits.Limits.{Limits}
+use Rattle.oas_elements.specs.Meaning.{Meaning}
+use Rattle.oas_reader.specs.Stands as stands
 use Rattle.oas_file.specs.Files.{FileOf}
 
 -- no record is refused after those before it

@@ -14,9 +14,9 @@ use Rattle.oas_record.specs.declared.records.Record.TheVariants.{End}
 use Rattle.oas_record.specs.Heads.{magic, IsMagic, MagicMay, start_in, StartTook}
 use Rattle.oas_record.specs.Records.{record_in}
 use Rattle.oas_record.specs.Refusals.{RecordTook}
-use Rattle.oas_layout.specs.declared.limits.Limits.{Limits}
-use Rattle.oas_modal.specs.Standing.{MayRunOut}
-use Rattle.oas_modal.specs.Stands.{refusal, end_refusal}
+use Rattle.oas_elements.specs.declared.limits.Limits.{Limits}
+use Rattle.oas_reader.specs.Standing.{MayRunOut}
+use Rattle.oas_reader.specs.Stands.{refusal, end_refusal}
 use Rattle.oas_file.specs.Places.{IsBefore}
 
 -- in the magic

@@ -1,3 +1,23 @@
+pub use Rattle.oas_reader.specs.Drawing
+pub use Rattle.oas_reader.specs.DrawingDrawn
+pub use Rattle.oas_reader.specs.Drawn
+pub use Rattle.oas_reader.specs.Finish
+pub use Rattle.oas_reader.specs.GivenFields
+pub use Rattle.oas_reader.specs.Kind
+pub use Rattle.oas_reader.specs.Looking
+pub use Rattle.oas_reader.specs.Meaning
+pub use Rattle.oas_reader.specs.Modal
+pub use Rattle.oas_reader.specs.Names
+pub use Rattle.oas_reader.specs.Position
+pub use Rattle.oas_reader.specs.Reasons
+pub use Rattle.oas_reader.specs.References
+pub use Rattle.oas_reader.specs.Standing
+pub use Rattle.oas_reader.specs.Stands
+pub use Rattle.oas_reader.specs.Stores
+pub use Rattle.oas_reader.specs.Taken as ReaderTaken
+pub use Rattle.oas_reader.specs.Turns
+pub use Rattle.oas_reader.specs.Values
+pub use Rattle.oas_reader.specs.declared.taken.Taken
 pub mod Files
 pub mod Acceptance
 pub mod Places
@@ -5,6 +25,3 @@ pub mod Deciding
 pub mod Reading
 pub mod Gathering
 pub mod Laws
-pub use Rattle.oas_modal.specs.oas_drawing
-pub use Rattle.oas_modal.specs as oas_modal
-pub use Rattle.oas_modal.specs.oas_names

@@ -6,7 +6,7 @@ use Rattle.oas_record.specs.declared.records.Record.{Record}
 use Rattle.oas_record.specs.declared.records.Record.TheVariants.{End}
 use Rattle.oas_record.specs.Heads.{magic, start_in}
 use Rattle.oas_record.specs.Records.{record_in}
-use Rattle.oas_layout.specs.declared.limits.Limits.{Limits}
+use Rattle.oas_elements.specs.declared.limits.Limits.{Limits}
 use Rattle.oas_file.specs.Files.{PrefixOf}
 use Rattle.oas_record.specs.Found.{NoneIsSpelled}
 use Rattle.oas_file.specs.Acceptance.{Allowed, IsWhole, Accepted}

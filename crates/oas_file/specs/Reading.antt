@@ -5,10 +5,10 @@ use Rattle.oas_num.specs.declared.refusals.Refusal.{Refusal}
 use Rattle.oas_num.specs.declared.refusals.Why.TheVariants.{Truncated, Read, InputTooLong, Write, Memory}
 use Rattle.oas_num.specs.Script.{Script, Consumed, IsAtEnd, HasFailed, IsTooLong}
 use Rattle.oas_num.specs.Reading.{is_cut}
-use Rattle.oas_layout.specs.declared.limits.Limits.{Limits}
-use Rattle.oas_layout.specs.declared.profile.Profile.{Profile}
-use Rattle.oas_layout.specs.Meaning.{Meaning, SameLayout}
-use Rattle.oas_layout.specs.Contents.{Contents, IsLayout, meaning_of}
+use Rattle.oas_elements.specs.declared.limits.Limits.{Limits}
+use Rattle.oas_elements.specs.declared.profile.Profile.{Profile}
+use Rattle.oas_elements.specs.Meaning.{Meaning, SameLayout}
+use Rattle.oas_elements.specs.Contents.{Contents, IsLayout, meaning_of}
 use Rattle.oas_file.specs.Acceptance.{Accepted, Means}
 use Rattle.oas_file.specs.Places.{RefusedAt}
 use Rattle.oas_file.specs.Deciding.{IsReasoned}
@@ -70,14 +70,3 @@ Refuses limits old refusal new = IsRefused limits old refusal.why new × IsPlace
 abbrev pub ReadsLayout : Limits → Profile → Script → Result Contents Refusal → Script → Type 0
 ReadsLayout limits profile old (Ok l) new = IsRead limits profile old l new
 ReadsLayout limits profile old (Err refusal) new = Refuses limits old refusal new
-
--- all that the source gave is an accepted file
-pub record IsAccepted (limits : Limits) (old new : Script) : Type 0 where
-  pub bytes : List ℕ
-  pub takes : Consumed old bytes new
-  pub ended : IsAtEnd new
-  pub accepted : Accepted limits bytes
-
-abbrev pub AcceptsFile : Limits → Script → Result Unit Refusal → Script → Type 0
-AcceptsFile limits old (Ok done) new = IsAccepted limits old new
-AcceptsFile limits old (Err refusal) new = Refuses limits old refusal new

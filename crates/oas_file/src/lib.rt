@@ -1,19 +1,16 @@
-//! A whole file: what it is and means, which files are accepted, reading its layout, and checking only whether it is
-//! accepted.
+//! A whole file: what it is and means, which files are accepted, where others are refused, and giving the records of one to
+//! a reader.
 //!
 //! What this crate promises to the crates above it:
 //!
-//! - [`read_layout`] returns the layout of what a source gives exactly where that is an accepted file, under the limits and
-//!   for the profile that it is handed, and fails otherwise: `ReadsLayout` (specs/Reading.antt). The layout is the same as
-//!   the file's meaning, and in order (`IsLayout` of oas_layout), so there is only one. The clauses cover both outcomes. A
+//! - The parts of reading a file: [`take_record`] takes the next record, or END (`ConsumesNext`, specs/Gathering.antt);
+//!   [`take_records`] gives all of them to a reader, with any stores (`Gathers`); [`find_end_of_input`] finds that nothing
+//!   follows (`FindsEnd`).
+//! - What a crate that reads a layout with them promises: `ReadsLayout` (specs/Reading.antt). The layout is the same as the
+//!   file's meaning, and in order (`IsLayout` of oas_elements), so there is only one. The clauses cover both outcomes. A
 //!   refusal with a reason of the bytes says that no accepted file begins with what was taken. `Why::Truncated` says that
 //!   what was taken to the end is no accepted file. The reasons of the device and of the source's limit say that the source
 //!   returned them.
-//! - [`accept_file`] accepts what a source gives exactly where it is an accepted file, and fails otherwise, by the same
-//!   clauses (`AcceptsFile`). It keeps no element.
-//! - Their parts, for a reader that does more with each record: [`take_record`] takes the next record, or END
-//!   (`ConsumesNext`, specs/Gathering.antt); [`take_records`] gives all of them to a reader, with any stores (`Gathers`);
-//!   [`find_end_of_input`] finds that nothing follows (`FindsEnd`).
 //! - Where the source had given nothing before: the offset of a refusal with a reason of the file is a place at which every
 //!   file that continues it is refused (`IsPlaced`). Each refusal says which of the bytes that were taken decided, and that
 //!   its reason holds for them (`IsReasoned`, specs/Deciding.antt).
@@ -22,14 +19,11 @@
 //!
 //! The definitions: what a file is, in a style (specs/Files.antt); which files are accepted, and what they mean
 //! (specs/Acceptance.antt); where a file is refused (specs/Places.antt), and which bytes decide that it is
-//! (specs/Deciding.antt). oas_record defines what a record is, and oas_modal what records mean and why they are refused.
+//! (specs/Deciding.antt). oas_record defines what a record is, and oas_reader what records mean and why they are refused.
 //!
 //! Whether an allocation succeeds is outside every contract: what allocates may return `Why::Memory`.
 //!
 //! # How it is built
-//!
-//! oas_file uses oas_modal, and what that uses. What it promises to the crates above: `read_layout` (`ReadsLayout`), and what
-//! a file is and means, with its laws.
 //!
 //! | specs/ | What |
 //! |---|---|
@@ -42,16 +36,15 @@
 //! | Reading | what reading a layout does |
 //! | Gathering | what its parts do: one record, all records, the end of the input |
 //!
-//! src/reading.rt is all of the code: START by oas_record, then each record by value to oas_modal's `Reader` until END
-//! (`take_next`; oas_peek reads a rectangle, a placement, a text, a polygon or a path at hand faster), then the end of the
-//! input, and only then `Reader::finish`, with END's offset. What holds for every layout (`IsLayout`) comes from
-//! `Layout::cells`. So a byte after END is refused before what END itself refuses. Taking the records (`take_records`) is
-//! generic over the reader's stores.
+//! src/reading.rt is all of the code: each record goes by value to a `Reader` of oas_reader until END (`take_next`; oas_peek
+//! reads a rectangle, a placement, a text, a polygon or a path at hand faster), and then comes the end of the input. A crate
+//! above reads START before (oas_record), and decides END after: so a byte after END is refused before what END itself
+//! refuses.
 //!
 //! How the proof goes.
 //!
 //! 1. *What was taken represents its records.* The invariant of the one loop is `HasGathered`: the bytes taken are a prefix
-//!    of a file with the records so far; the reader represents these (`Represents` of oas_modal, which says what one more
+//!    of a file with the records so far; the reader represents these (`Represents` of oas_reader, which says what one more
 //!    record does); and they are allowed. The loop's contract quantifies over where the read began (`HasBegun`), so the loop
 //!    is about the whole file.
 //! 2. *Two prefixes of one file compare* (`fronts`, proofs/Fronts.antt): they have one START, and their records are the same,
@@ -61,7 +54,7 @@
 //! 3. *A read that fails refuses the file* (`read_refused`, proofs/Refusing.antt), in the magic, in START and in a record
 //!    alike: what a file requires there couldn't be read, and what fits nothing there fits no file (`Wants` of oas_num). What
 //!    was read and isn't accepted is refused out of memory, or so that no accepted file goes on like this (`judged_refused`).
-//!    For each reason in oas_modal's definitions proofs/Judged.antt shows that it isn't about the input's end, the device or
+//!    For each reason in oas_reader's definitions proofs/Judged.antt shows that it isn't about the input's end, the device or
 //!    the memory.
 //! 4. *Three facts at once.* In each situation the refusal, its place and what decided it are one triple (`Refuses`):
 //!    `head_refuses`, `record_refuses`, `gather_refuses` (proofs/Taking.antt), `not_ended` and `finished`
@@ -76,12 +69,9 @@
 //!    that is the place. Where END is there the file is accepted, or has its place there or after it.
 #![tactic(auto)]
 
-mod accepting;
 pub mod laws;
 mod reading;
 
 // The crates below, for those above.
-pub use accepting::accept_file;
-pub use oas_modal;
-pub use oas_modal::oas_names;
-pub use reading::{find_end_of_input, read_layout, take_record, take_records};
+pub use oas_reader;
+pub use reading::{find_end_of_input, take_record, take_records};

@@ -1,13 +1,11 @@
-//! From a source to a layout.
+//! From a source to a reader: one record, all records, and the end of the input.
 ghost use Rattle.std.specs.Prelude.{◌≡◌};
 ghost use Rattle.oas_file.specs.Gathering.{ConsumesNext, ConsumesOne, Gathers, FindsEnd};
-ghost use Rattle.oas_file.specs.Reading.{ReadsLayout};
 
-use oas_layout::{Layout, Limits, Profile};
-use oas_modal::{CellStore, Reader};
 use oas_num::{Refusal, Source, SourceFault, Why};
 use oas_peek::{peek_figure, peek_named, peek_rectangle};
-use oas_record::{Head, Record, read_head};
+use oas_reader::{CellStore, Reader};
+use oas_record::{Head, Record};
 use std::alloc::Global;
 
 /// Takes the next record, and returns None where it is END.
@@ -104,27 +102,4 @@ pub fn find_end_of_input<S: Source>(source: &mut S) -> Result<(), Refusal>
         Err(SourceFault::TooLong) => Why::InputTooLong,
     };
     Err(Refusal { at, why })
-}
-
-/// Reads all that a source gives, and returns its layout.
-///
-/// A refusal has the reason and an offset. The offset is 0 for the magic, 13 for START, the record's for a record that can't
-/// be read or isn't allowed, and the first byte's after END for what follows it. It is END's for what can be decided only
-/// once the whole file is known (numbers without names, cells with one name, and the weight with all names).
-pub fn read_layout<S: Source>(
-    alloc: Global,
-    source: &mut S,
-    limits: Limits,
-    profile: Profile,
-) -> Result<Layout, Refusal>
-    ensures { ReadsLayout limits profile (S.script source.old) result (S.script source.new) }
-{
-    let head = read_head(alloc, source)?;
-    let mut reader = Reader::new(alloc, head.unit, limits, profile);
-    let end = take_records(alloc, source, head, &mut reader)?;
-    find_end_of_input(source)?;
-    let layout = reader.finish(end)?;
-    // `Layout::cells` says what holds for each layout.
-    let _ = layout.cell_count();
-    Ok(layout)
 }

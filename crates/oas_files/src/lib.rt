@@ -1,5 +1,5 @@
-//! Files by name, as on a command line: which file a word means; files that are opened, created, replaced; and names that are
-//! listed and printed.
+//! Files by name, as on a command line: which file a word means; files that are opened, created, replaced; names that are
+//! listed and printed; and the progress of long work over them.
 //!
 //! What this crate promises to the program:
 //!
@@ -10,8 +10,10 @@
 //!   one of these, or standard output (`IsOutput`). The contents of each are the bytes that `write` of the system's file, or of
 //!   standard output, took of what it was handed (specs/Taking.antt): no byte is dropped on the way there.
 //! - [`Replacement`] is in its place once it is flushed, and not before (`Stage`).
-//!
 //! - [`text_of`] returns the text of a name that is UTF-8, which is that name.
+//! - [`progress::Reading`] reads what is below it, and [`progress::Writing`] writes what is below it, whatever happens to the
+//!   line that each shows (`remaining` and `contents` are those of what is below). Without a meter they show nothing. What a
+//!   [`progress::Meter`] shows is tested.
 //!
 //! [`mark_output`] marks the pipe to the next program, which asks [`is_input_marked`].
 //!
@@ -31,6 +33,7 @@ mod pipes;
 mod placing;
 mod printing;
 mod process;
+pub mod progress;
 mod replacing;
 mod words;
 

@@ -11,7 +11,7 @@ use Rattle.oas_num.specs.Ratio.{Ratio}
 use Rattle.oas_record.specs.declared.records.Record.{Record}
 use Rattle.oas_record.specs.Heads.{SpellsUnit}
 use Rattle.oas_record.specs.Records.{id_of, after_id, record_in, IsInner}
-use Rattle.oas_layout.specs.Sound.{IsUnit}
+use Rattle.oas_elements.specs.Sound.{IsUnit}
 use Rattle.oas_form.proofs.FieldsGiven.{GivenFieldsFit, name_after}
 use Rattle.oas_form.proofs.AllKinds.{fields_after}
 

@@ -9,16 +9,16 @@ use Rattle.oas_record.specs.declared.references.CellRef.TheVariants as cell
 use Rattle.oas_record.specs.declared.placements.Turn.{Turn}
 use Rattle.oas_record.specs.declared.placements.Turn.TheVariants.{Quarters, Degrees}
 use Rattle.oas_record.specs.Records.{id_of, after_id, record_in, IsInner}
-use Rattle.oas_file.specs.oas_drawing.GivenFields.{given_fields}
+use Rattle.oas_file.specs.GivenFields.{given_fields}
 use Rattle.oas_num.specs.declared.deltas.GDelta.{GDelta}
 use Rattle.oas_ring.specs.declared.point.Point.{Point}
-use Rattle.oas_file.specs.oas_drawing.declared.kinds.Kind.{Kind}
-use Rattle.oas_file.specs.oas_drawing.Modal.{modal_of}
-use Rattle.oas_file.specs.oas_drawing.Turns.{turned}
-use Rattle.oas_file.specs.oas_drawing.Drawing.{kind_at, place_of, point_from, drawn_if}
-use Rattle.oas_layout.specs.declared.element.Element.{Element}
-use Rattle.oas_file.specs.oas_drawing.declared.kinds.Kind.TheVariants as kinds
-use Rattle.oas_layout.specs.declared.element.Element.TheVariants.{Placement, Text, Rectangle, Polygon, Path, Circle}
+use Rattle.oas_file.specs.Kind.{Kind}
+use Rattle.oas_file.specs.Modal.{modal_of}
+use Rattle.oas_file.specs.Turns.{turned}
+use Rattle.oas_file.specs.Drawing.{kind_at, place_of, point_from, drawn_if}
+use Rattle.oas_elements.specs.declared.element.Element.{Element}
+use Rattle.oas_file.specs.Kind.TheVariants as kinds
+use Rattle.oas_elements.specs.declared.element.Element.TheVariants.{Placement, Text, Rectangle, Polygon, Path, Circle}
 use Rattle.oas_form.proofs.PlacementKind as placements
 use Rattle.oas_form.proofs.TextKind as texts
 use Rattle.oas_form.proofs.RectangleKind as rectangles

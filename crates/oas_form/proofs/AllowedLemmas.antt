@@ -15,23 +15,23 @@ use Rattle.oas_record.specs.Records.{id_of}
 use Rattle.oas_record.specs.declared.records.Record.{Record}
 use Rattle.oas_record.specs.declared.records.Record.TheVariants as record_of
 use Rattle.oas_record.specs.declared.references.CellRef.TheVariants as cell
-use Rattle.oas_layout.specs.declared.element.Element.{Element}
-use Rattle.oas_layout.specs.declared.element.Element.TheVariants.{Placement}
-use Rattle.oas_layout.specs.declared.limits.Limits.{Limits}
-use Rattle.oas_layout.specs.Grid.{fits_grid}
-use Rattle.oas_layout.specs.Weight.{weight_of, lacks_points}
-use Rattle.oas_layout.specs.Meaning.{element_count, cells_weight}
-use Rattle.oas_file.specs.oas_drawing.declared.drawn.Drawn.{Drawn}
-use Rattle.oas_file.specs.oas_drawing.declared.drawn.Drawn.TheVariants.{Named}
-use Rattle.oas_file.specs.oas_drawing.Modal.{ModalState, modal_of, stepped}
-use Rattle.oas_file.specs.oas_drawing.Drawn.{weight_so_far}
-use Rattle.oas_file.specs.oas_drawing.Drawing.{elements_at}
-use Rattle.oas_file.specs.oas_drawing.Reasons.{first_of, draw_reason}
-use Rattle.oas_file.specs.oas_names.Names.{named, cell_names, text_strings, same_string}
-use Rattle.oas_file.specs.oas_names.Meaning.{is_unnamed, lacks_name, has_twice, end_reason}
-use Rattle.oas_file.specs.oas_modal.Standing.{element_reason}
-use Rattle.oas_file.specs.oas_modal.Stands as stands
-use Rattle.oas_file.specs.oas_modal.Stands.{is_in_cell, number_drawn, weight_so_far_of, seen, refused_after}
+use Rattle.oas_elements.specs.declared.element.Element.{Element}
+use Rattle.oas_elements.specs.declared.element.Element.TheVariants.{Placement}
+use Rattle.oas_elements.specs.declared.limits.Limits.{Limits}
+use Rattle.oas_elements.specs.Grid.{fits_grid}
+use Rattle.oas_elements.specs.Weight.{weight_of, lacks_points}
+use Rattle.oas_elements.specs.Meaning.{element_count, cells_weight}
+use Rattle.oas_file.specs.Drawn.{Drawn}
+use Rattle.oas_file.specs.Drawn.TheVariants.{Named}
+use Rattle.oas_file.specs.Modal.{ModalState, modal_of, stepped}
+use Rattle.oas_file.specs.DrawingDrawn.{weight_so_far}
+use Rattle.oas_file.specs.Drawing.{elements_at}
+use Rattle.oas_file.specs.Reasons.{first_of, draw_reason}
+use Rattle.oas_file.specs.Names.{named, cell_names, text_strings, same_string}
+use Rattle.oas_file.specs.Meaning.{is_unnamed, lacks_name, has_twice, end_reason}
+use Rattle.oas_file.specs.Standing.{element_reason}
+use Rattle.oas_file.specs.Stands as stands
+use Rattle.oas_file.specs.Stands.{is_in_cell, number_drawn, weight_so_far_of, seen, refused_after}
 use Rattle.oas_form.specs.Records.{Cells, element_record, records_of}
 use Rattle.oas_form.specs.RecordMeaning.{HavePoints, FitGrid, CanonicalAllowed, CanonicalWhole, AscendingWhole}
 use Rattle.oas_form.proofs.MeantLemmas.{onto, onto-append, reverse-is, IsAbsolute, draws, absolute_element, drawn_cell, drawn_again, cells_named}

@@ -16,18 +16,18 @@ use Rattle.oas_ring.specs.Rectangles.{box_of}
 use Rattle.oas_ring.specs.Laws.ReadingsLaws.{least_of-IsLeastReadingOf}
 use Rattle.oas_ring.specs.Laws.RectanglesLaws.{box_of-is, box_of-none, box_of-alike}
 use Rattle.oas_ring.specs.Laws.RingsLaws.{same_ring_back}
-use Rattle.oas_layout.specs.declared.element.Element.{Element}
-use Rattle.oas_layout.specs.declared.element.Element.TheVariants.{Polygon}
-use Rattle.oas_layout.specs.declared.limits.Limits.{Limits}
-use Rattle.oas_layout.specs.declared.profile.Profile.{Profile}
-use Rattle.oas_layout.specs.declared.profile.Profile.TheVariants.{One, Two}
-use Rattle.oas_layout.specs.Element.{element_cmp}
-use Rattle.oas_layout.specs.Laws.SameLaws.{same_element-Decides, same_element-is, normal-alike, normal-no_box}
-use Rattle.oas_layout.specs.Meaning.{Meaning, SameLayout, count_of, elements_of}
-use Rattle.oas_layout.specs.Same.{same_element, normal_polygon, normal, IsNormal}
-use Rattle.oas_layout.proofs.LawProofs.{symmetric}
-use Rattle.oas_layout.proofs.Sealed.{name_cmp}
-use Rattle.oas_file.specs.oas_modal.Stands.{records_mean}
+use Rattle.oas_elements.specs.declared.element.Element.{Element}
+use Rattle.oas_elements.specs.declared.element.Element.TheVariants.{Polygon}
+use Rattle.oas_elements.specs.declared.limits.Limits.{Limits}
+use Rattle.oas_elements.specs.declared.profile.Profile.{Profile}
+use Rattle.oas_elements.specs.declared.profile.Profile.TheVariants.{One, Two}
+use Rattle.oas_elements.specs.Element.{element_cmp}
+use Rattle.oas_elements.specs.Laws.SameLaws.{same_element-Decides, same_element-is, normal-alike, normal-no_box}
+use Rattle.oas_elements.specs.Meaning.{Meaning, SameLayout, count_of, elements_of}
+use Rattle.oas_elements.specs.Same.{same_element, normal_polygon, normal, IsNormal}
+use Rattle.oas_elements.proofs.LawProofs.{symmetric}
+use Rattle.oas_elements.proofs.Sealed.{name_cmp}
+use Rattle.oas_file.specs.Stands.{records_mean}
 use Rattle.oas_file.specs.Laws.FileLaws.{file_of, means_one}
 use Rattle.oas_file.specs.Acceptance.{Means}
 use Rattle.oas_form.specs.Records.{Cells}

@@ -10,9 +10,9 @@ use Rattle.oas_record.specs.declared.references.CellRef.{CellRef}
 use Rattle.oas_record.specs.declared.references.CellRef.TheVariants as cell
 use Rattle.oas_record.specs.References.{cell_in}
 use Rattle.oas_record.specs.Records.{record_in, IsInner}
-use Rattle.oas_layout.specs.declared.element.Element.{Element}
+use Rattle.oas_elements.specs.declared.element.Element.{Element}
 use Rattle.oas_form.specs.Records.{Cells, element_record, records_of}
-use Rattle.oas_layout.specs.Sound.{Fits}
+use Rattle.oas_elements.specs.Sound.{Fits}
 use Rattle.oas_form.proofs.FieldsFit.{named_fits}
 use Rattle.oas_form.proofs.AllKinds.{of_element}
 

@@ -8,9 +8,9 @@ use Rattle.oas_num.specs.Deltas.{step}
 use Rattle.oas_ring.specs.declared.point.Point.{Point}
 use Rattle.oas_shape.specs.Steps.{still, added, sums_after, moved}
 use Rattle.oas_shape.specs.Polylines.{vertices_of}
-use Rattle.oas_file.specs.oas_drawing.declared.positions.Position.{Position}
-use Rattle.oas_file.specs.oas_drawing.Modal.{moved_by}
-use Rattle.oas_file.specs.oas_drawing.Drawing.{point_from}
+use Rattle.oas_file.specs.Position.{Position}
+use Rattle.oas_file.specs.Modal.{moved_by}
+use Rattle.oas_file.specs.Drawing.{point_from}
 use Rattle.oas_form.specs.Records.{spot_at, line_of, steps_from}
 
 -- ---- the vertices of a list

@@ -4,13 +4,13 @@ use Rattle.std.specs.Prelude.{IfSome}
 use Rattle.std.specs.Option.{option_or}
 use Rattle.std.specs.List.{AllByRecursion}
 use Rattle.oas_record.specs.declared.records.Record.{Record}
-use Rattle.oas_layout.specs.Sound.{Fits}
-use Rattle.oas_file.specs.oas_drawing.declared.drawn.Drawn.{Drawn}
-use Rattle.oas_file.specs.oas_drawing.declared.drawn.Drawn.TheVariants.{Named, PlacementBy, TextBy}
-use Rattle.oas_file.specs.oas_drawing.Looking.{is_cell, latest}
-use Rattle.oas_file.specs.oas_drawing.GivenFields.{GivenFields, given_fields}
-use Rattle.oas_file.specs.oas_drawing.Values.{field, given_height}
-use Rattle.oas_file.specs.oas_drawing.Modal.{modal_of}
+use Rattle.oas_elements.specs.Sound.{Fits}
+use Rattle.oas_file.specs.Drawn.{Drawn}
+use Rattle.oas_file.specs.Drawn.TheVariants.{Named, PlacementBy, TextBy}
+use Rattle.oas_file.specs.Looking.{is_cell, latest}
+use Rattle.oas_file.specs.GivenFields.{GivenFields, given_fields}
+use Rattle.oas_file.specs.Values.{field, given_height}
+use Rattle.oas_file.specs.Modal.{modal_of}
 use Rattle.oas_form.proofs.FieldsGiven.{Small, FieldsFit, GivenFieldsFit}
 
 -- ---- modal variables

@@ -11,20 +11,20 @@ use Rattle.oas_record.specs.declared.records.Record.{Record}
 use Rattle.oas_record.specs.declared.records.Record.TheVariants as record_of
 use Rattle.oas_record.specs.declared.references.CellRef.{CellRef}
 use Rattle.oas_record.specs.declared.references.CellRef.TheVariants as cell
-use Rattle.oas_layout.specs.declared.element.Element.{Element}
-use Rattle.oas_layout.specs.declared.element.Element.TheVariants as element
-use Rattle.oas_layout.specs.declared.limits.Limits.{Limits}
-use Rattle.oas_layout.specs.Meaning.{Meaning, element_count, cells_weight}
-use Rattle.oas_layout.specs.Sound.{IsSound, IsUnit}
-use Rattle.oas_file.specs.oas_drawing.declared.drawn.Drawn.{Drawn}
-use Rattle.oas_file.specs.oas_drawing.declared.drawn.Drawn.TheVariants.{Named, PlacementBy, TextBy}
-use Rattle.oas_file.specs.oas_drawing.Drawing.{elements_at}
-use Rattle.oas_file.specs.oas_names.Names.{cell_names, text_strings, name_of, named}
-use Rattle.oas_file.specs.oas_names.References.{cell_by}
-use Rattle.oas_file.specs.oas_names.Meaning.{DrawnCell, element_by, with_element, elements_by_name, with_named, cells_by_name, has_twice, in_last, cells_drawn}
-use Rattle.oas_file.specs.oas_modal.Stands as stands
-use Rattle.oas_file.specs.oas_modal.Stands.{number_drawn, records_mean}
-use Rattle.oas_file.proofs.oas_modal_proofs.TakeLemmas.{all_append}
+use Rattle.oas_elements.specs.declared.element.Element.{Element}
+use Rattle.oas_elements.specs.declared.element.Element.TheVariants as element
+use Rattle.oas_elements.specs.declared.limits.Limits.{Limits}
+use Rattle.oas_elements.specs.Meaning.{Meaning, element_count, cells_weight}
+use Rattle.oas_elements.specs.Sound.{IsSound, IsUnit}
+use Rattle.oas_file.specs.Drawn.{Drawn}
+use Rattle.oas_file.specs.Drawn.TheVariants.{Named, PlacementBy, TextBy}
+use Rattle.oas_file.specs.Drawing.{elements_at}
+use Rattle.oas_file.specs.Names.{cell_names, text_strings, name_of, named}
+use Rattle.oas_file.specs.References.{cell_by}
+use Rattle.oas_file.specs.Meaning.{DrawnCell, element_by, with_element, elements_by_name, with_named, cells_by_name, has_twice, in_last, cells_drawn}
+use Rattle.oas_file.specs.Stands as stands
+use Rattle.oas_file.specs.Stands.{number_drawn, records_mean}
+use Rattle.oas_file.proofs.TakeLemmas.{all_append}
 use Rattle.oas_file.specs.Acceptance.{Accepted}
 use Rattle.oas_form.specs.Spelling.{IsSpellable}
 use Rattle.oas_form.proofs.FieldsGiven.{CellFits, GivenFieldsFit}

@@ -14,24 +14,24 @@ use Rattle.oas_record.specs.declared.records.Record.TheVariants as record_of
 use Rattle.oas_record.specs.declared.references.CellRef.TheVariants as cell
 use Rattle.oas_record.specs.declared.references.TextRef.TheVariants as text
 use Rattle.oas_record.specs.Records.{id_of}
-use Rattle.oas_layout.specs.declared.element.Element.TheVariants as element
-use Rattle.oas_layout.specs.declared.limits.Limits.{Limits}
-use Rattle.oas_file.specs.oas_drawing.declared.drawn.Drawn.{Drawn}
-use Rattle.oas_file.specs.oas_drawing.declared.drawn.Drawn.TheVariants.{Named, PlacementBy, TextBy}
-use Rattle.oas_file.specs.oas_drawing.declared.kinds.Kind.{Kind}
-use Rattle.oas_file.specs.oas_drawing.Modal.{ModalState, modal_of, stepped}
-use Rattle.oas_file.specs.oas_drawing.Drawing.{kind_of, repeats, place_of, point_from, drawn_by, drawn_if, drawn_at, offset_if, number_if, offsets_of, copies_at, elements_at}
-use Rattle.oas_file.specs.oas_drawing.Drawn.{weight_so_far}
-use Rattle.oas_file.specs.oas_drawing.Reasons.{first_of, weight_if, lacks_if, fits_if, kind_reason, all_fit, reason_if, draw_reason}
-use Rattle.oas_file.proofs.oas_drawing_proofs.Steps.{modal_step}
-use Rattle.oas_file.specs.oas_names.Names.{cell_names, text_strings, same_string, name_reason}
-use Rattle.oas_file.specs.oas_modal.Finish.{IsFit}
-use Rattle.oas_file.specs.oas_modal.Standing.{element_reason}
-use Rattle.oas_file.specs.oas_modal.Stands as stands
-use Rattle.oas_file.specs.oas_modal.Stands.{is_in_cell, number_drawn, weight_so_far_of, seen, refused_after}
-use Rattle.oas_file.proofs.oas_modal_proofs.DrawLemmas.{is_element, is_passed}
-use Rattle.oas_file.proofs.oas_drawing_proofs.AllKinds.{drawn_alike}
-use Rattle.oas_file.proofs.oas_modal_proofs.TakeLemmas.{all_append}
+use Rattle.oas_elements.specs.declared.element.Element.TheVariants as element
+use Rattle.oas_elements.specs.declared.limits.Limits.{Limits}
+use Rattle.oas_file.specs.Drawn.{Drawn}
+use Rattle.oas_file.specs.Drawn.TheVariants.{Named, PlacementBy, TextBy}
+use Rattle.oas_file.specs.Kind.{Kind}
+use Rattle.oas_file.specs.Modal.{ModalState, modal_of, stepped}
+use Rattle.oas_file.specs.Drawing.{kind_of, repeats, place_of, point_from, drawn_by, drawn_if, drawn_at, offset_if, number_if, offsets_of, copies_at, elements_at}
+use Rattle.oas_file.specs.DrawingDrawn.{weight_so_far}
+use Rattle.oas_file.specs.Reasons.{first_of, weight_if, lacks_if, fits_if, kind_reason, all_fit, reason_if, draw_reason}
+use Rattle.oas_file.proofs.Steps.{modal_step}
+use Rattle.oas_file.specs.Names.{cell_names, text_strings, same_string, name_reason}
+use Rattle.oas_file.specs.Finish.{IsFit}
+use Rattle.oas_file.specs.Standing.{element_reason}
+use Rattle.oas_file.specs.Stands as stands
+use Rattle.oas_file.specs.Stands.{is_in_cell, number_drawn, weight_so_far_of, seen, refused_after}
+use Rattle.oas_file.proofs.DrawLemmas.{is_element, is_passed}
+use Rattle.oas_file.proofs.AllKinds.{drawn_alike}
+use Rattle.oas_file.proofs.TakeLemmas.{all_append}
 use Rattle.oas_form.proofs.FieldsGiven.{GivenFieldsFit}
 use Rattle.oas_form.proofs.DrawnFits.{DrawnFits}
 use Rattle.oas_form.proofs.AllKinds.{kind_fits}

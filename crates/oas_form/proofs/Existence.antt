@@ -10,19 +10,19 @@ use Rattle.oas_num.specs.Texts.{IsName}
 use Rattle.oas_ring.specs.declared.point.Point.{Point}
 use Rattle.oas_ring.specs.declared.rectangles.Corners.{Corners}
 use Rattle.oas_ring.specs.Readings.{least_of}
-use Rattle.oas_layout.specs.declared.profile.Profile.{Profile}
-use Rattle.oas_layout.specs.declared.element.Element.{Element}
-use Rattle.oas_layout.specs.declared.element.Element.TheVariants.{Polygon, Rectangle}
-use Rattle.oas_layout.specs.Grid.{is_coordinate, reaches, fits_grid}
-use Rattle.oas_layout.specs.Bag.{items}
-use Rattle.oas_layout.specs.Same.{drawn_box, normal_polygon, normal}
-use Rattle.oas_layout.specs.Sound.{IsSound, Fits, FitsPolygon}
-use Rattle.oas_layout.specs.Meaning.{Meaning}
-use Rattle.oas_layout.proofs.LawProofs.{symmetric}
-use Rattle.oas_layout.proofs.Order.{sound-put_more}
-use Rattle.oas_layout.proofs.Sealed.{name_cmp}
-use Rattle.oas_layout.proofs.SoundLemmas.{lacks_points-normal, fits_grid-normal}
-use Rattle.oas_file.specs.oas_modal.Stands.{records_mean}
+use Rattle.oas_elements.specs.declared.profile.Profile.{Profile}
+use Rattle.oas_elements.specs.declared.element.Element.{Element}
+use Rattle.oas_elements.specs.declared.element.Element.TheVariants.{Polygon, Rectangle}
+use Rattle.oas_elements.specs.Grid.{is_coordinate, reaches, fits_grid}
+use Rattle.oas_elements.specs.Bag.{items}
+use Rattle.oas_elements.specs.Same.{drawn_box, normal_polygon, normal}
+use Rattle.oas_elements.specs.Sound.{IsSound, Fits, FitsPolygon}
+use Rattle.oas_elements.specs.Meaning.{Meaning}
+use Rattle.oas_elements.proofs.LawProofs.{symmetric}
+use Rattle.oas_elements.proofs.Order.{sound-put_more}
+use Rattle.oas_elements.proofs.Sealed.{name_cmp}
+use Rattle.oas_elements.proofs.SoundLemmas.{lacks_points-normal, fits_grid-normal}
+use Rattle.oas_file.specs.Stands.{records_mean}
 use Rattle.oas_form.specs.Records.{Cells}
 use Rattle.oas_form.specs.Bytes.{canonical_bytes}
 use Rattle.oas_form.specs.Canonical.{IsCanonicalOf, SameExactly}

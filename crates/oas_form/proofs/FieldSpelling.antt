@@ -22,7 +22,7 @@ use Rattle.oas_record.specs.declared.references.CellRef.TheVariants as cell
 use Rattle.oas_record.specs.declared.references.TextRef.TheVariants as text
 use Rattle.oas_record.specs.Info.{has}
 use Rattle.oas_record.specs.Fields.{spot_in}
-use Rattle.oas_layout.specs.Grid.{is_coordinate, reaches, is_grid_point}
+use Rattle.oas_elements.specs.Grid.{is_coordinate, reaches, is_grid_point}
 use Rattle.oas_form.specs.Records.{spot_at, steps_from, line_of, spot_of}
 use Rattle.oas_form.specs.Bytes.{string_bytes, place_bytes, step_bytes, list_bytes, points_bytes}
 

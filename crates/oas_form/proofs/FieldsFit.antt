@@ -10,7 +10,7 @@ use Rattle.oas_record.specs.declared.references.CellRef.TheVariants as cell
 use Rattle.oas_record.specs.declared.references.TextRef.TheVariants as text
 use Rattle.oas_record.specs.References.{cell_in, text_in}
 use Rattle.oas_record.specs.Heads.{ShortestUnit}
-use Rattle.oas_layout.specs.Sound.{IsUnit}
+use Rattle.oas_elements.specs.Sound.{IsUnit}
 
 -- ---- strings, numbers, and the unit
 

@@ -12,7 +12,7 @@ use Rattle.oas_record.specs.declared.references.TextRef.{TextRef}
 use Rattle.oas_record.specs.declared.references.TextRef.TheVariants as text
 use Rattle.oas_record.specs.References.{cell_in, text_in}
 use Rattle.oas_record.specs.Records.{id_of, after_id}
-use Rattle.oas_file.specs.oas_drawing.GivenFields.{GivenFields, given_fields}
+use Rattle.oas_file.specs.GivenFields.{GivenFields, given_fields}
 
 -- ---- what fits
 

@@ -4,11 +4,11 @@ use Rattle.oas_num.specs.Style.{Any, Shortest}
 use Rattle.oas_num.specs.Ratio.{Ratio}
 use Rattle.oas_record.specs.declared.heads.Head.{Head}
 use Rattle.oas_record.specs.declared.records.Record.{Record}
-use Rattle.oas_layout.specs.declared.limits.Limits.{Limits}
-use Rattle.oas_layout.specs.declared.profile.Profile.{Profile}
-use Rattle.oas_layout.specs.Meaning.{Meaning, SameLayout}
-use Rattle.oas_layout.proofs.LawProofs.{reflexive, symmetric, transitive}
-use Rattle.oas_file.specs.oas_modal.Stands.{records_mean}
+use Rattle.oas_elements.specs.declared.limits.Limits.{Limits}
+use Rattle.oas_elements.specs.declared.profile.Profile.{Profile}
+use Rattle.oas_elements.specs.Meaning.{Meaning, SameLayout}
+use Rattle.oas_elements.proofs.LawProofs.{reflexive, symmetric, transitive}
+use Rattle.oas_file.specs.Stands.{records_mean}
 use Rattle.oas_file.specs.Files.{FileIn}
 use Rattle.oas_file.specs.Laws.FileLaws.{one_reading, one_spelling, means_one}
 use Rattle.oas_file.specs.Acceptance.{Allowed, IsWhole, Means}

@@ -9,17 +9,17 @@ use Rattle.oas_num.specs.Ratio.{Ratio}
 use Rattle.oas_num.specs.declared.refusals.Why.TheVariants.{UnknownReference, DuplicateCell, TooHeavy}
 use Rattle.oas_record.specs.declared.heads.Head.{Head}
 use Rattle.oas_record.specs.declared.records.Record.{Record}
-use Rattle.oas_layout.specs.declared.limits.Limits.{Limits}
-use Rattle.oas_layout.specs.declared.profile.Profile.{Profile}
-use Rattle.oas_layout.specs.declared.element.Element.{Element}
-use Rattle.oas_layout.specs.declared.element.Element.TheVariants.{Path}
-use Rattle.oas_layout.specs.Weight.{lacks_points}
-use Rattle.oas_layout.specs.Grid.{fits_grid}
-use Rattle.oas_layout.specs.Sound.{Fits, IsSound, IsUnit}
-use Rattle.oas_layout.specs.Meaning.{Meaning, SameLayout, cells_weight}
-use Rattle.oas_file.specs.oas_drawing.Reasons.{first_of}
-use Rattle.oas_file.specs.oas_names.Meaning.{has_twice}
-use Rattle.oas_file.specs.oas_modal.Stands.{records_mean}
+use Rattle.oas_elements.specs.declared.limits.Limits.{Limits}
+use Rattle.oas_elements.specs.declared.profile.Profile.{Profile}
+use Rattle.oas_elements.specs.declared.element.Element.{Element}
+use Rattle.oas_elements.specs.declared.element.Element.TheVariants.{Path}
+use Rattle.oas_elements.specs.Weight.{lacks_points}
+use Rattle.oas_elements.specs.Grid.{fits_grid}
+use Rattle.oas_elements.specs.Sound.{Fits, IsSound, IsUnit}
+use Rattle.oas_elements.specs.Meaning.{Meaning, SameLayout, cells_weight}
+use Rattle.oas_file.specs.Reasons.{first_of}
+use Rattle.oas_file.specs.Meaning.{has_twice}
+use Rattle.oas_file.specs.Stands.{records_mean}
 use Rattle.oas_file.specs.Laws.FileLaws.{one_reading, means_one}
 use Rattle.oas_file.specs.Laws.FileLaws as file
 use Rattle.oas_file.specs.Acceptance.{Accepted, IsWhole, Means}

@@ -11,22 +11,22 @@ use Rattle.oas_record.specs.declared.records.Record.TheVariants as record_of
 use Rattle.oas_record.specs.declared.references.CellRef.TheVariants as cell
 use Rattle.oas_record.specs.declared.placements.Turn.TheVariants.{Quarters}
 use Rattle.oas_record.specs.Records.{id_of}
-use Rattle.oas_layout.specs.declared.element.Element.{Element}
-use Rattle.oas_layout.specs.declared.limits.Limits.{Limits}
-use Rattle.oas_layout.specs.Element.{turn_count}
-use Rattle.oas_layout.specs.Grid.{fits_grid}
-use Rattle.oas_layout.specs.Weight.{lacks_points}
-use Rattle.oas_file.specs.oas_drawing.declared.drawn.Drawn.{Drawn}
-use Rattle.oas_file.specs.oas_drawing.declared.drawn.Drawn.TheVariants.{Named}
-use Rattle.oas_file.specs.oas_drawing.declared.kinds.Kind.{Kind}
-use Rattle.oas_file.specs.oas_drawing.declared.kinds.Kind.TheVariants as kind
-use Rattle.oas_file.specs.oas_drawing.Modal.{ModalState, modal_of, stepped}
-use Rattle.oas_file.specs.oas_drawing.Drawing.{kind_of, repeats, drawn_if, drawn_by, copies_at, offsets_if, elements_at}
-use Rattle.oas_file.specs.oas_drawing.Reasons.{first_of, fits_if, all_fit, kind_reason, reason_if, draw_reason}
-use Rattle.oas_file.proofs.oas_drawing_proofs.Steps.{modal_step}
-use Rattle.oas_file.specs.oas_modal.Standing.{element_reason}
-use Rattle.oas_file.specs.oas_modal.Stands as stands
-use Rattle.oas_file.specs.oas_modal.Stands.{seen, refused_after}
+use Rattle.oas_elements.specs.declared.element.Element.{Element}
+use Rattle.oas_elements.specs.declared.limits.Limits.{Limits}
+use Rattle.oas_elements.specs.Element.{turn_count}
+use Rattle.oas_elements.specs.Grid.{fits_grid}
+use Rattle.oas_elements.specs.Weight.{lacks_points}
+use Rattle.oas_file.specs.Drawn.{Drawn}
+use Rattle.oas_file.specs.Drawn.TheVariants.{Named}
+use Rattle.oas_file.specs.Kind.{Kind}
+use Rattle.oas_file.specs.Kind.TheVariants as kind
+use Rattle.oas_file.specs.Modal.{ModalState, modal_of, stepped}
+use Rattle.oas_file.specs.Drawing.{kind_of, repeats, drawn_if, drawn_by, copies_at, offsets_if, elements_at}
+use Rattle.oas_file.specs.Reasons.{first_of, fits_if, all_fit, kind_reason, reason_if, draw_reason}
+use Rattle.oas_file.proofs.Steps.{modal_step}
+use Rattle.oas_file.specs.Standing.{element_reason}
+use Rattle.oas_file.specs.Stands as stands
+use Rattle.oas_file.specs.Stands.{seen, refused_after}
 use Rattle.oas_file.specs.Acceptance.{Allowed}
 use Rattle.oas_form.specs.Records.{Cells, element_record, records_of}
 use Rattle.oas_form.specs.RecordMeaning.{HavePoints, FitGrid}

@@ -7,14 +7,14 @@ use Rattle.oas_record.specs.declared.heads.Head.{Head}
 use Rattle.oas_record.specs.declared.records.Record.{Record}
 use Rattle.oas_record.specs.Heads.{head_in}
 use Rattle.oas_record.specs.Records.{record_in, IsInner}
-use Rattle.oas_layout.specs.declared.limits.Limits.{Limits}
-use Rattle.oas_layout.specs.declared.profile.Profile.{Profile}
-use Rattle.oas_layout.specs.Sound.{IsUnit}
-use Rattle.oas_layout.specs.Meaning.{Meaning}
-use Rattle.oas_file.specs.oas_drawing.declared.drawn.Drawn.TheVariants.{Named}
-use Rattle.oas_file.specs.oas_drawing.Drawing.{elements_at}
-use Rattle.oas_file.specs.oas_modal.Stands as stands
-use Rattle.oas_file.specs.oas_modal.Stands.{records_mean}
+use Rattle.oas_elements.specs.declared.limits.Limits.{Limits}
+use Rattle.oas_elements.specs.declared.profile.Profile.{Profile}
+use Rattle.oas_elements.specs.Sound.{IsUnit}
+use Rattle.oas_elements.specs.Meaning.{Meaning}
+use Rattle.oas_file.specs.Drawn.TheVariants.{Named}
+use Rattle.oas_file.specs.Drawing.{elements_at}
+use Rattle.oas_file.specs.Stands as stands
+use Rattle.oas_file.specs.Stands.{records_mean}
 use Rattle.oas_file.specs.Acceptance.{Allowed, Accepted}
 use Rattle.oas_file.specs.Laws.FileLaws.{one_reading, means_one}
 use Rattle.oas_form.specs.Bytes.{canonical_bytes}

@@ -11,17 +11,17 @@ use Rattle.std.specs.Cmp.Lexicographic.{nat_list_cmp_total}
 use Rattle.oas_record.specs.declared.records.Record.{Record}
 use Rattle.oas_record.specs.declared.records.Record.TheVariants as record_of
 use Rattle.oas_record.specs.declared.references.CellRef.TheVariants as cell
-use Rattle.oas_layout.specs.declared.element.Element.{Element}
-use Rattle.oas_layout.specs.declared.element.Element.TheVariants.{Placement}
-use Rattle.oas_layout.specs.declared.profile.Profile.{Profile}
-use Rattle.oas_layout.specs.Ascending.{Ascends}
-use Rattle.oas_layout.specs.Element.{element_cmp}
-use Rattle.oas_layout.specs.Laws.ElementLaws.{element_total}
-use Rattle.oas_layout.specs.Same.{IsNormal}
-use Rattle.oas_layout.specs.Weight.{lacks_points}
-use Rattle.oas_layout.proofs.Sealed.{name_cmp}
-use Rattle.oas_file.specs.oas_drawing.declared.drawn.Drawn.{Drawn}
-use Rattle.oas_file.specs.oas_drawing.Drawing.{elements_at}
+use Rattle.oas_elements.specs.declared.element.Element.{Element}
+use Rattle.oas_elements.specs.declared.element.Element.TheVariants.{Placement}
+use Rattle.oas_elements.specs.declared.profile.Profile.{Profile}
+use Rattle.oas_elements.specs.Ascending.{Ascends}
+use Rattle.oas_elements.specs.Element.{element_cmp}
+use Rattle.oas_elements.specs.Laws.ElementLaws.{element_total}
+use Rattle.oas_elements.specs.Same.{IsNormal}
+use Rattle.oas_elements.specs.Weight.{lacks_points}
+use Rattle.oas_elements.proofs.Sealed.{name_cmp}
+use Rattle.oas_file.specs.Drawn.{Drawn}
+use Rattle.oas_file.specs.Drawing.{elements_at}
 use Rattle.oas_form.specs.Canonical.{IsOrdered}
 use Rattle.oas_form.specs.Records.{Cells, element_record, records_of}
 use Rattle.oas_form.specs.RecordMeaning.{HavePoints}

@@ -8,18 +8,18 @@ use Rattle.oas_record.specs.declared.records.Record.TheVariants as record_of
 use Rattle.oas_record.specs.declared.references.CellRef.TheVariants as cell
 use Rattle.oas_record.specs.Records.{record_in, IsInner}
 use Rattle.oas_record.specs.Laws.RecordLaws.{PrefixFree-record, IsWithin-record}
-use Rattle.oas_layout.specs.declared.element.Element.{Element}
-use Rattle.oas_layout.specs.declared.element.Element.TheVariants.{Placement}
-use Rattle.oas_layout.specs.declared.limits.Limits.{Limits}
-use Rattle.oas_layout.specs.declared.profile.Profile.{Profile}
-use Rattle.oas_layout.specs.Same.{normal, IsNormal}
-use Rattle.oas_layout.specs.Laws.SameLaws.{weight_of-normal-le}
-use Rattle.oas_layout.specs.Sound.{IsSound}
-use Rattle.oas_layout.specs.Weight.{weight_of, lacks_points}
-use Rattle.oas_file.specs.oas_drawing.declared.drawn.Drawn.{Drawn}
-use Rattle.oas_file.specs.oas_drawing.declared.drawn.Drawn.TheVariants.{Named, PlacementBy, TextBy}
-use Rattle.oas_file.specs.oas_drawing.Drawing.{elements_at}
-use Rattle.oas_file.specs.oas_modal.Stands as stands
+use Rattle.oas_elements.specs.declared.element.Element.{Element}
+use Rattle.oas_elements.specs.declared.element.Element.TheVariants.{Placement}
+use Rattle.oas_elements.specs.declared.limits.Limits.{Limits}
+use Rattle.oas_elements.specs.declared.profile.Profile.{Profile}
+use Rattle.oas_elements.specs.Same.{normal, IsNormal}
+use Rattle.oas_elements.specs.Laws.SameLaws.{weight_of-normal-le}
+use Rattle.oas_elements.specs.Sound.{IsSound}
+use Rattle.oas_elements.specs.Weight.{weight_of, lacks_points}
+use Rattle.oas_file.specs.Drawn.{Drawn}
+use Rattle.oas_file.specs.Drawn.TheVariants.{Named, PlacementBy, TextBy}
+use Rattle.oas_file.specs.Drawing.{elements_at}
+use Rattle.oas_file.specs.Stands as stands
 use Rattle.oas_form.specs.Bytes.{element_bytes}
 use Rattle.oas_form.specs.Records.{element_record}
 use Rattle.oas_form.specs.Judging.{Entry, entry_records, Judge, IsDrawnInOrder, IsInOrder, judge_drawn, judge_after, judge_of, AreInOrder, MatchesDrawn, Matches, AllMatch}

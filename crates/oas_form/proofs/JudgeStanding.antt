@@ -3,12 +3,12 @@ use Rattle.std.proofs.Common.{◌≡◌, ◌↔◌, ℕ, Bool, IsTrue, List, [],
 use Rattle.oas_record.specs.declared.records.Record.{Record}
 use Rattle.oas_record.specs.declared.records.Record.TheVariants as record_of
 use Rattle.oas_record.specs.declared.references.CellRef.TheVariants as cell
-use Rattle.oas_layout.specs.declared.element.Element.{Element}
-use Rattle.oas_layout.specs.declared.limits.Limits.{Limits}
-use Rattle.oas_layout.specs.declared.profile.Profile.{Profile}
-use Rattle.oas_layout.specs.Same.{normal, IsNormal}
-use Rattle.oas_file.specs.oas_drawing.declared.drawn.Drawn.TheVariants.{Named}
-use Rattle.oas_file.specs.oas_drawing.Drawing.{elements_at}
+use Rattle.oas_elements.specs.declared.element.Element.{Element}
+use Rattle.oas_elements.specs.declared.limits.Limits.{Limits}
+use Rattle.oas_elements.specs.declared.profile.Profile.{Profile}
+use Rattle.oas_elements.specs.Same.{normal, IsNormal}
+use Rattle.oas_file.specs.Drawn.TheVariants.{Named}
+use Rattle.oas_file.specs.Drawing.{elements_at}
 use Rattle.oas_form.specs.Bytes.{element_bytes}
 use Rattle.oas_form.specs.Judging.{Entry, entry_records, Judge, IsAbove, IsNotBelow, judge_drawn, judge_of, MatchesDrawn, AllMatch, AreRead, JudgeRepresents, JudgeStandsFirst}
 use Rattle.oas_form.specs.Judging.{JudgeDraws, JudgeOpens, JudgeRefuses}

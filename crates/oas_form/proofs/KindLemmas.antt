@@ -5,8 +5,8 @@ use Rattle.oas_ring.specs.declared.point.Point.{Point}
 use Rattle.oas_record.specs.declared.records.Record.{Record}
 use Rattle.oas_record.specs.declared.records.Record.TheVariants as record_of
 use Rattle.oas_record.specs.declared.references.CellRef.TheVariants as cell
-use Rattle.oas_layout.specs.declared.element.Element.{Element}
-use Rattle.oas_layout.specs.Weight.{lacks_points}
+use Rattle.oas_elements.specs.declared.element.Element.{Element}
+use Rattle.oas_elements.specs.Weight.{lacks_points}
 use Rattle.oas_form.specs.Records.{element_record}
 
 -- the record of an element that has its points

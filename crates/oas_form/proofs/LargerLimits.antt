@@ -10,17 +10,17 @@ use Rattle.oas_shape.specs.Steps.{still}
 use Rattle.oas_record.specs.declared.records.Record.{Record}
 use Rattle.oas_record.specs.declared.records.Record.TheVariants as record_of
 use Rattle.oas_record.specs.Records.{id_of}
-use Rattle.oas_layout.specs.declared.limits.Limits.{Limits}
-use Rattle.oas_layout.specs.Meaning.{cells_weight}
-use Rattle.oas_file.specs.oas_drawing.declared.kinds.Kind.{Kind}
-use Rattle.oas_file.specs.oas_drawing.Modal.{ModalState, stepped}
-use Rattle.oas_file.specs.oas_drawing.Drawing.{kind_of, repeats, place_of, drawn_by, number_if, lacks_repetition, elements_at}
-use Rattle.oas_file.specs.oas_drawing.Reasons.{first_of, is_magnified, is_askew, weight_if, lacks_if, is_on_grid, kind_reason, all_fit, reason_if, draw_reason}
-use Rattle.oas_file.specs.oas_names.Names.{cell_names, text_strings, named}
-use Rattle.oas_file.specs.oas_names.Meaning.{DrawnCell, cells_drawn, cells_by_name, lacks_name, has_twice, end_reason}
-use Rattle.oas_file.specs.oas_modal.Standing.{Standing, cell_weight, element_reason}
-use Rattle.oas_file.specs.oas_modal.Stands as stands
-use Rattle.oas_file.specs.oas_modal.Stands.{weight_so_far_of, seen, refused_after}
+use Rattle.oas_elements.specs.declared.limits.Limits.{Limits}
+use Rattle.oas_elements.specs.Meaning.{cells_weight}
+use Rattle.oas_file.specs.Kind.{Kind}
+use Rattle.oas_file.specs.Modal.{ModalState, stepped}
+use Rattle.oas_file.specs.Drawing.{kind_of, repeats, place_of, drawn_by, number_if, lacks_repetition, elements_at}
+use Rattle.oas_file.specs.Reasons.{first_of, is_magnified, is_askew, weight_if, lacks_if, is_on_grid, kind_reason, all_fit, reason_if, draw_reason}
+use Rattle.oas_file.specs.Names.{cell_names, text_strings, named}
+use Rattle.oas_file.specs.Meaning.{DrawnCell, cells_drawn, cells_by_name, lacks_name, has_twice, end_reason}
+use Rattle.oas_file.specs.Standing.{Standing, cell_weight, element_reason}
+use Rattle.oas_file.specs.Stands as stands
+use Rattle.oas_file.specs.Stands.{weight_so_far_of, seen, refused_after}
 use Rattle.oas_form.specs.Layouts.{LargerLimits}
 
 -- ---- reasons, where one or two hold more rarely

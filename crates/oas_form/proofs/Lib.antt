@@ -1,7 +1,15 @@
+pub use Rattle.oas_file.proofs.Ending
+pub use Rattle.oas_file.proofs.FinishLemmas
+pub use Rattle.oas_file.proofs.Fronts
+pub use Rattle.oas_file.proofs.Grids
+pub use Rattle.oas_file.proofs.Judged
+pub use Rattle.oas_file.proofs.Refusing
+pub use Rattle.oas_file.proofs.SomePlaces
+pub use Rattle.oas_file.proofs.Steps
+pub use Rattle.oas_file.proofs.Taking
 pub mod AllGiven
 pub mod AllKinds
 pub mod AllowedLemmas
-pub mod AloneLemmas
 pub mod Boxes
 pub mod CellsFit
 pub mod CircleKind
@@ -10,7 +18,6 @@ pub mod DrawnAgain
 pub mod DrawnFits
 pub mod DrawsSound
 pub mod DrawnSound
-pub mod ElementPutting
 pub mod FieldSpelling
 pub mod ElementSpelling
 pub mod Existence
@@ -29,7 +36,6 @@ pub mod JudgeStanding
 pub mod ShortFields
 pub mod KindLemmas
 pub mod LargerLimits
-pub mod LayoutForms
 pub mod Lengths
 pub mod MeantLemmas
 pub mod NumberPutting
@@ -49,6 +55,3 @@ pub mod Sizes
 pub mod Spelling
 pub mod TextKind
 pub mod Written
-pub use Rattle.oas_file.proofs.oas_drawing_proofs
-pub use Rattle.oas_file.proofs as oas_file_proofs
-pub use Rattle.oas_file.proofs.oas_modal_proofs

@@ -7,17 +7,17 @@ use Rattle.oas_shape.specs.Steps.{still}
 use Rattle.oas_record.specs.declared.records.Record.{Record}
 use Rattle.oas_record.specs.declared.records.Record.TheVariants as record_of
 use Rattle.oas_record.specs.declared.references.CellRef.TheVariants as cell
-use Rattle.oas_layout.specs.declared.element.Element.{Element}
-use Rattle.oas_layout.specs.declared.element.Element.TheVariants.{Placement}
-use Rattle.oas_layout.specs.Weight.{lacks_points}
-use Rattle.oas_file.specs.oas_drawing.declared.drawn.Drawn.{Drawn}
-use Rattle.oas_file.specs.oas_drawing.declared.drawn.Drawn.TheVariants.{Named}
-use Rattle.oas_file.specs.oas_drawing.Values.{is_relative}
-use Rattle.oas_file.specs.oas_drawing.Modal.{ModalState, modal_of, stepped}
-use Rattle.oas_file.specs.oas_drawing.Drawing.{offsets_of, copies_at, elements_at}
-use Rattle.oas_file.proofs.oas_drawing_proofs.Steps.{modal_step}
-use Rattle.oas_file.specs.oas_names.Names.{named, cell_names, text_strings}
-use Rattle.oas_file.specs.oas_names.Meaning.{DrawnCell, elements_by_name, cells_by_name, in_last, cells_drawn}
+use Rattle.oas_elements.specs.declared.element.Element.{Element}
+use Rattle.oas_elements.specs.declared.element.Element.TheVariants.{Placement}
+use Rattle.oas_elements.specs.Weight.{lacks_points}
+use Rattle.oas_file.specs.Drawn.{Drawn}
+use Rattle.oas_file.specs.Drawn.TheVariants.{Named}
+use Rattle.oas_file.specs.Values.{is_relative}
+use Rattle.oas_file.specs.Modal.{ModalState, modal_of, stepped}
+use Rattle.oas_file.specs.Drawing.{offsets_of, copies_at, elements_at}
+use Rattle.oas_file.proofs.Steps.{modal_step}
+use Rattle.oas_file.specs.Names.{named, cell_names, text_strings}
+use Rattle.oas_file.specs.Meaning.{DrawnCell, elements_by_name, cells_by_name, in_last, cells_drawn}
 use Rattle.oas_form.specs.Records.{Cells, element_record, records_of}
 use Rattle.oas_form.specs.RecordMeaning.{HavePoints, RecordsSplit, CanonicalMeans}
 use Rattle.oas_form.proofs.AllKinds.{of_element}

@@ -1,20 +1,20 @@
 -- What is proved about each kind of element: about its canonical record, and about that record's bytes.
 use Rattle.std.proofs.Common.{◌≡◌, ℕ, ◌*◌, ◌≤◌, false, List, length, Some, None, ◌^◌}
 use Rattle.oas_num.specs.Style.{Shortest}
-use Rattle.oas_layout.specs.declared.element.Element.{Element}
-use Rattle.oas_layout.specs.Weight.{weight_of, lacks_points}
+use Rattle.oas_elements.specs.declared.element.Element.{Element}
+use Rattle.oas_elements.specs.Weight.{weight_of, lacks_points}
 use Rattle.oas_form.specs.Records.{element_record}
 use Rattle.oas_form.specs.Bytes.{element_bytes}
 use Rattle.oas_form.specs.Spelling.{HasPoint}
 use Rattle.oas_shape.specs.Steps.{still}
-use Rattle.oas_file.specs.oas_drawing.declared.drawn.Drawn.TheVariants.{Named}
-use Rattle.oas_file.specs.oas_drawing.Modal.{ModalState, stepped}
-use Rattle.oas_file.specs.oas_drawing.Drawing.{drawn_at, kind_of, repeats}
+use Rattle.oas_file.specs.Drawn.TheVariants.{Named}
+use Rattle.oas_file.specs.Modal.{ModalState, stepped}
+use Rattle.oas_file.specs.Drawing.{drawn_at, kind_of, repeats}
 use Rattle.oas_record.specs.Records.{record_in}
-use Rattle.oas_layout.specs.declared.limits.Limits.{Limits}
-use Rattle.oas_file.specs.oas_drawing.Reasons.{draw_reason}
-use Rattle.oas_layout.specs.Sound.{IsSound, Fits}
-use Rattle.oas_file.specs.oas_drawing.declared.kinds.Kind.{Kind}
+use Rattle.oas_elements.specs.declared.limits.Limits.{Limits}
+use Rattle.oas_file.specs.Reasons.{draw_reason}
+use Rattle.oas_elements.specs.Sound.{IsSound, Fits}
+use Rattle.oas_file.specs.Kind.{Kind}
 use Rattle.oas_form.proofs.ElementSpelling.{Inner}
 use Rattle.oas_form.proofs.OneAllowed.{IsFine}
 

@@ -6,15 +6,15 @@ use Rattle.std.specs.Option.{option_or}
 use Rattle.oas_num.specs.declared.refusals.Why.{Why}
 use Rattle.oas_num.specs.declared.refusals.Why.TheVariants.{ModalUndefined, Magnification, Angle, TooManyElements, TooHeavy, PointCount, CoordinateRange}
 use Rattle.oas_shape.specs.Steps.{still}
-use Rattle.oas_layout.specs.declared.element.Element.{Element}
-use Rattle.oas_layout.specs.declared.limits.Limits.{Limits}
-use Rattle.oas_layout.specs.Grid.{fits_grid}
-use Rattle.oas_layout.specs.Weight.{weight_of, lacks_points}
-use Rattle.oas_file.specs.oas_drawing.declared.drawn.Drawn.{Drawn}
-use Rattle.oas_file.specs.oas_drawing.declared.drawn.Drawn.TheVariants.{Named}
-use Rattle.oas_file.specs.oas_drawing.Modal.{ModalState}
-use Rattle.oas_file.specs.oas_drawing.Drawing.{drawn_at}
-use Rattle.oas_file.specs.oas_drawing.Reasons.{first_of, weight_if, lacks_if, fits_if}
+use Rattle.oas_elements.specs.declared.element.Element.{Element}
+use Rattle.oas_elements.specs.declared.limits.Limits.{Limits}
+use Rattle.oas_elements.specs.Grid.{fits_grid}
+use Rattle.oas_elements.specs.Weight.{weight_of, lacks_points}
+use Rattle.oas_file.specs.Drawn.{Drawn}
+use Rattle.oas_file.specs.Drawn.TheVariants.{Named}
+use Rattle.oas_file.specs.Modal.{ModalState}
+use Rattle.oas_file.specs.Drawing.{drawn_at}
+use Rattle.oas_file.specs.Reasons.{first_of, weight_if, lacks_if, fits_if}
 use Rattle.oas_form.specs.Records.{element_record}
 
 -- why a record without a repetition is refused, by the conditions in their order

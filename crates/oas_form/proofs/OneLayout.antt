@@ -1,11 +1,11 @@
 -- Reading a file by one profile gives one layout.
 use Rattle.std.proofs.Common.{◌≡◌, ℕ, List, subst}
 use Rattle.oas_num.specs.Script.{Script}
-use Rattle.oas_layout.specs.declared.limits.Limits.{Limits}
-use Rattle.oas_layout.specs.declared.profile.Profile.{Profile}
-use Rattle.oas_layout.specs.Contents.{Contents, expanded, meaning_of}
-use Rattle.oas_layout.specs.Meaning.{Meaning, SameLayout}
-use Rattle.oas_layout.proofs.LawProofs.{symmetric, transitive}
+use Rattle.oas_elements.specs.declared.limits.Limits.{Limits}
+use Rattle.oas_elements.specs.declared.profile.Profile.{Profile}
+use Rattle.oas_elements.specs.Contents.{Contents, expanded, meaning_of}
+use Rattle.oas_elements.specs.Meaning.{Meaning, SameLayout}
+use Rattle.oas_elements.proofs.LawProofs.{symmetric, transitive}
 use Rattle.oas_file.specs.Acceptance.{Means}
 use Rattle.oas_file.specs.Laws.FileLaws.{means_one}
 use Rattle.oas_file.specs.Reading.{IsRead}

@@ -11,17 +11,17 @@ use Rattle.std.specs.declared.cmp.Ordering.TheVariants.{Less}
 use Rattle.std.specs.Cmp.{tied_itself}
 use Rattle.std.specs.Cmp.Lexicographic.{pointwise, nat_list_cmp_total, texts_ties}
 use Rattle.std.proofs.lemmas.Map.Lookups.{exact_bytes}
-use Rattle.oas_layout.specs.declared.profile.Profile.{Profile}
-use Rattle.oas_layout.specs.declared.element.Element.{Element}
-use Rattle.oas_layout.specs.Element.{element_cmp}
-use Rattle.oas_layout.specs.Laws.ElementLaws.{element_total}
-use Rattle.oas_layout.specs.Ascending.{Ascends}
-use Rattle.oas_layout.specs.Bag.{items}
-use Rattle.oas_layout.specs.Same.{IsNormal}
-use Rattle.oas_layout.specs.Meaning.{Meaning, SameLayout, count_of, elements_of}
-use Rattle.oas_layout.specs.Contents.{Cell, names, expanded, IsCell}
-use Rattle.oas_layout.proofs.LawProofs.{equal}
-use Rattle.oas_layout.proofs.Sealed.{name_cmp}
+use Rattle.oas_elements.specs.declared.profile.Profile.{Profile}
+use Rattle.oas_elements.specs.declared.element.Element.{Element}
+use Rattle.oas_elements.specs.Element.{element_cmp}
+use Rattle.oas_elements.specs.Laws.ElementLaws.{element_total}
+use Rattle.oas_elements.specs.Ascending.{Ascends}
+use Rattle.oas_elements.specs.Bag.{items}
+use Rattle.oas_elements.specs.Same.{IsNormal}
+use Rattle.oas_elements.specs.Meaning.{Meaning, SameLayout, count_of, elements_of}
+use Rattle.oas_elements.specs.Contents.{Cell, names, expanded, IsCell}
+use Rattle.oas_elements.proofs.LawProofs.{equal}
+use Rattle.oas_elements.proofs.Sealed.{name_cmp}
 use Rattle.oas_form.specs.Records.{Cells}
 use Rattle.oas_form.specs.Canonical.{IsOrdered}
 use Rattle.oas_form.specs.Layouts.{EqualInOrder, LayoutInOrder}

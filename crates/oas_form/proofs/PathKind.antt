@@ -13,27 +13,27 @@ use Rattle.oas_shape.specs.declared.list_use.ListUse.TheVariants as uses
 use Rattle.oas_record.specs.declared.paths.Extension.TheVariants.{Explicit}
 use Rattle.oas_record.specs.Info.{info_in}
 use Rattle.oas_record.specs.Paths.{IsPathInfo, IsCanonicalPath, path_in, extensions_in}
-use Rattle.oas_layout.specs.Grid.{is_coordinate, is_grid_point}
-use Rattle.oas_layout.specs.Sound.{FitsPath, IsSound, Fits}
+use Rattle.oas_elements.specs.Grid.{is_coordinate, is_grid_point}
+use Rattle.oas_elements.specs.Sound.{FitsPath, IsSound, Fits}
 use Rattle.oas_form.specs.Records.{line_of, spot_of, element_record}
 use Rattle.oas_form.specs.Bytes.{points_bytes, element_bytes}
 use Rattle.oas_record.specs.declared.records.Record.TheVariants as record_of
 use Rattle.oas_record.specs.Records.{record_in}
-use Rattle.oas_layout.specs.Weight.{weight_of, lacks_points}
+use Rattle.oas_elements.specs.Weight.{weight_of, lacks_points}
 use Rattle.oas_form.specs.Spelling.{HasPoint}
-use Rattle.oas_file.specs.oas_drawing.GivenFields.{given_fields}
+use Rattle.oas_file.specs.GivenFields.{given_fields}
 use Rattle.oas_shape.specs.Polylines.{Polyline, vertices_of}
-use Rattle.oas_file.specs.oas_drawing.declared.drawn.Drawn.TheVariants.{Named}
-use Rattle.oas_file.specs.oas_drawing.Modal.{ModalState, stepped}
-use Rattle.oas_file.specs.oas_drawing.Drawing.{path_at, drawn_at}
+use Rattle.oas_file.specs.Drawn.TheVariants.{Named}
+use Rattle.oas_file.specs.Modal.{ModalState, stepped}
+use Rattle.oas_file.specs.Drawing.{path_at, drawn_at}
 use Rattle.oas_shape.specs.Steps.{still}
-use Rattle.oas_layout.specs.declared.limits.Limits.{Limits}
-use Rattle.oas_file.specs.oas_drawing.Reasons.{is_on_grid, draw_reason}
+use Rattle.oas_elements.specs.declared.limits.Limits.{Limits}
+use Rattle.oas_file.specs.Reasons.{is_on_grid, draw_reason}
 use Rattle.oas_record.specs.declared.paths.Extensions.{Extensions}
 use Rattle.oas_record.specs.Paths as paths
 use Rattle.oas_record.specs.declared.paths.Path.{Path as OnePath}
-use Rattle.oas_layout.specs.declared.element.Element.TheVariants.{Path}
-use Rattle.oas_file.specs.oas_drawing.declared.kinds.Kind.TheVariants as kinds
+use Rattle.oas_elements.specs.declared.element.Element.TheVariants.{Path}
+use Rattle.oas_file.specs.Kind.TheVariants as kinds
 use Rattle.oas_form.proofs.ElementSpelling.{Inner, info_byte}
 use Rattle.oas_form.proofs.FieldsFit.{number_fits}
 use Rattle.oas_form.proofs.FieldsGiven.{Small, FieldsFit, fit, small, moved_fits}

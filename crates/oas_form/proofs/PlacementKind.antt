@@ -10,33 +10,33 @@ use Rattle.oas_record.specs.declared.references.CellRef.TheVariants as cell
 use Rattle.oas_record.specs.declared.placements.Turn.TheVariants.{Quarters, Degrees}
 use Rattle.oas_record.specs.Info.{has, info_in}
 use Rattle.oas_record.specs.Placements.{IsPlacementInfo, IsCanonicalPlacement, quarters_in, degrees_in}
-use Rattle.oas_layout.specs.declared.element.Turns.{Turns}
-use Rattle.oas_layout.specs.declared.element.Turns.TheVariants.{T0, T1, T2, T3}
-use Rattle.oas_layout.specs.Element.{turn_count}
-use Rattle.oas_layout.specs.Grid.{is_coordinate}
-use Rattle.oas_layout.specs.Sound.{IsSound, Fits}
+use Rattle.oas_elements.specs.declared.element.Turns.{Turns}
+use Rattle.oas_elements.specs.declared.element.Turns.TheVariants.{T0, T1, T2, T3}
+use Rattle.oas_elements.specs.Element.{turn_count}
+use Rattle.oas_elements.specs.Grid.{is_coordinate}
+use Rattle.oas_elements.specs.Sound.{IsSound, Fits}
 use Rattle.oas_form.specs.Records.{spot_at, element_record}
 use Rattle.oas_form.specs.Bytes.{string_bytes, place_bytes, placement_info, element_bytes}
 use Rattle.oas_record.specs.declared.records.Record.TheVariants as record_of
 use Rattle.oas_record.specs.Records.{after_id, record_in}
-use Rattle.oas_layout.specs.Weight.{weight_of, lacks_points}
+use Rattle.oas_elements.specs.Weight.{weight_of, lacks_points}
 use Rattle.oas_form.specs.Spelling.{HasPoint}
 use Rattle.oas_record.specs.declared.references.CellRef.{CellRef}
 use Rattle.oas_record.specs.References.{cell_in}
 use Rattle.oas_record.specs.declared.placements.Turn.{Turn}
-use Rattle.oas_file.specs.oas_drawing.GivenFields.{given_fields}
-use Rattle.oas_file.specs.oas_drawing.declared.drawn.Drawn.TheVariants.{Named}
-use Rattle.oas_file.specs.oas_drawing.Modal.{ModalState, stepped}
-use Rattle.oas_file.specs.oas_drawing.Turns.{turned}
-use Rattle.oas_file.specs.oas_drawing.Drawing.{placement_at, drawn_at}
+use Rattle.oas_file.specs.GivenFields.{given_fields}
+use Rattle.oas_file.specs.Drawn.TheVariants.{Named}
+use Rattle.oas_file.specs.Modal.{ModalState, stepped}
+use Rattle.oas_file.specs.Turns.{turned}
+use Rattle.oas_file.specs.Drawing.{placement_at, drawn_at}
 use Rattle.oas_shape.specs.Steps.{still}
-use Rattle.oas_layout.specs.declared.limits.Limits.{Limits}
-use Rattle.oas_file.specs.oas_drawing.Reasons.{is_on_grid, draw_reason}
+use Rattle.oas_elements.specs.declared.limits.Limits.{Limits}
+use Rattle.oas_file.specs.Reasons.{is_on_grid, draw_reason}
 use Rattle.oas_record.specs.Fields.{spot_in}
 use Rattle.oas_record.specs.Placements as placements
 use Rattle.oas_record.specs.declared.placements.Placement.{Placement as OnePlacement}
-use Rattle.oas_layout.specs.declared.element.Element.TheVariants.{Placement}
-use Rattle.oas_file.specs.oas_drawing.declared.kinds.Kind.TheVariants as kinds
+use Rattle.oas_elements.specs.declared.element.Element.TheVariants.{Placement}
+use Rattle.oas_file.specs.Kind.TheVariants as kinds
 use Rattle.oas_form.proofs.ElementSpelling.{Inner, info_byte}
 use Rattle.oas_form.proofs.FieldsFit.{is_spelled, named_fits}
 use Rattle.oas_form.proofs.FieldsGiven.{CellFits, FieldsFit, fit, cell_fits, there, small, moved_fits}

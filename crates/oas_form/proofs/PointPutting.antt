@@ -8,7 +8,7 @@ use Rattle.std.proofs.lemmas.Bool.{and_parts}
 use Rattle.std.proofs.lemmas.Int.{ints, to_z-of_z, fits_signed_from_abs}
 use Rattle.oas_num.specs.Writing.{PutsPrefix, shortest, shortest_gdelta}
 use Rattle.oas_ring.specs.declared.point.Point.{Point}
-use Rattle.oas_layout.specs.Grid.{is_coordinate, is_grid_point}
+use Rattle.oas_elements.specs.Grid.{is_coordinate, is_grid_point}
 use Rattle.oas_form.specs.Bytes.{step_bytes, list_bytes}
 use Rattle.oas_form.specs.Putting.{PutsAll}
 use Rattle.oas_form.proofs.FieldSpelling.{near}

@@ -72,10 +72,6 @@ module _ {K : Type 0} {given : K → List ℕ → K → Type 0} {failures : K �
       PutsPrefix given failures old whole new
   fails_at left p q = last_fails p (first_fails left q)
 
-  -- what was put whole is a prefix of itself
-  pub nothing_left : {whole : List ℕ} {old now : K} {n : ℕ} → PutsAll given failures old whole n now → PutSoFar given failures whole [] old now n
-  nothing_left {whole = whole} p = record { front = whole; joined = sym (append-nil whole); puts = p.puts; count_is = p.count_is }
-
   -- what was put so far is no longer than the whole
   pub so_far_within : {whole left : List ℕ} {old mid : K} {n : ℕ} → PutSoFar given failures whole left old mid n → n ≤ length whole
   so_far_within {left = left} p = omega (arith, p.count_is, ap length p.joined, length-append p.front left)

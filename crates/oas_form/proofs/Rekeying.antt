@@ -9,18 +9,18 @@ use Rattle.oas_ring.specs.Readings.{least_of}
 use Rattle.oas_ring.specs.Laws.ReadingsLaws.{least_of-IsLeastReadingOf, least_of-least_of}
 use Rattle.oas_ring.specs.Laws.RectanglesLaws.{box_of-alike}
 use Rattle.oas_ring.specs.Laws.RingsLaws.{same_ring_back}
-use Rattle.oas_layout.specs.declared.profile.Profile.TheVariants.{One, Two}
-use Rattle.oas_layout.specs.declared.element.Element.{Element}
-use Rattle.oas_layout.specs.declared.element.Element.TheVariants.{Polygon}
-use Rattle.oas_layout.specs.Element.{element_cmp}
-use Rattle.oas_layout.specs.Laws.ElementLaws.{exact_elements}
-use Rattle.oas_layout.specs.Bag.{items, with_more}
-use Rattle.oas_layout.specs.Laws.BagLaws.{total, sum_by-items, total-put_more}
-use Rattle.oas_layout.specs.Same.{same_element, normal_polygon, normal, IsNormal}
-use Rattle.oas_layout.specs.Laws.SameLaws.{same_element-is, normal-least, normal-polygon}
-use Rattle.oas_layout.specs.Meaning.{Meaning, SameLayout, count_of, elements_of}
-use Rattle.oas_layout.proofs.LawProofs.{equal, reflexive, symmetric, transitive}
-use Rattle.oas_file.specs.oas_modal.Stands.{records_mean}
+use Rattle.oas_elements.specs.declared.profile.Profile.TheVariants.{One, Two}
+use Rattle.oas_elements.specs.declared.element.Element.{Element}
+use Rattle.oas_elements.specs.declared.element.Element.TheVariants.{Polygon}
+use Rattle.oas_elements.specs.Element.{element_cmp}
+use Rattle.oas_elements.specs.Laws.ElementLaws.{exact_elements}
+use Rattle.oas_elements.specs.Bag.{items, with_more}
+use Rattle.oas_elements.specs.Laws.BagLaws.{total, sum_by-items, total-put_more}
+use Rattle.oas_elements.specs.Same.{same_element, normal_polygon, normal, IsNormal}
+use Rattle.oas_elements.specs.Laws.SameLaws.{same_element-is, normal-least, normal-polygon}
+use Rattle.oas_elements.specs.Meaning.{Meaning, SameLayout, count_of, elements_of}
+use Rattle.oas_elements.proofs.LawProofs.{equal, reflexive, symmetric, transitive}
+use Rattle.oas_file.specs.Stands.{records_mean}
 use Rattle.oas_file.specs.Laws.FileLaws.{file_of, means_one}
 use Rattle.oas_file.specs.Acceptance.{Means}
 use Rattle.oas_form.specs.Records.{Cells}

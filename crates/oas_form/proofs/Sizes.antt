@@ -12,24 +12,24 @@ use Rattle.std.specs.FinMap.Entries.{by_order, put, find, below_all, is_sorted, 
 use Rattle.std.proofs.lemmas.Map.Keys.{sorted_head, sorted_tail}
 use Rattle.std.proofs.lemmas.List.Sums.{sum_by-cons}
 use Rattle.std.specs.Cmp.Lexicographic.{pointwise, nat_list_cmp_total, texts_ties}
-use Rattle.oas_layout.specs.declared.profile.Profile.{Profile}
-use Rattle.oas_layout.specs.declared.profile.Profile.TheVariants.{One}
-use Rattle.oas_layout.specs.declared.element.Element.{Element}
-use Rattle.oas_layout.specs.Element.{element_cmp}
-use Rattle.oas_layout.specs.Laws.ElementLaws.{element_total}
-use Rattle.oas_layout.specs.Ascending.{Ascends}
-use Rattle.oas_layout.specs.Bag.{items, put_more, with_more, IsBag}
-use Rattle.oas_layout.specs.Laws.BagLaws.{adding}
-use Rattle.oas_layout.specs.Same.{same_element, normal, IsNormal}
-use Rattle.oas_layout.specs.Laws.SameLaws.{normal-normal, weight_of-normal, weight_of-normal-le}
-use Rattle.oas_layout.specs.Weight.{weight_of}
-use Rattle.oas_layout.specs.Meaning.{Meaning, SameLayout, count_of, elements_of, cells_sum, element_count, cells_weight}
-use Rattle.oas_layout.specs.Laws.ContentsLaws.{length-items-with_more, weight-with_more}
-use Rattle.oas_layout.proofs.LawProofs.{symmetric, transitive}
-use Rattle.oas_layout.proofs.Order.{IsBag-empty, IsBag-put_more}
-use Rattle.oas_layout.proofs.Sealed.{name_cmp}
-use Rattle.oas_file.specs.oas_names.Names.{same_string}
-use Rattle.oas_file.specs.oas_names.Meaning.{has_twice}
+use Rattle.oas_elements.specs.declared.profile.Profile.{Profile}
+use Rattle.oas_elements.specs.declared.profile.Profile.TheVariants.{One}
+use Rattle.oas_elements.specs.declared.element.Element.{Element}
+use Rattle.oas_elements.specs.Element.{element_cmp}
+use Rattle.oas_elements.specs.Laws.ElementLaws.{element_total}
+use Rattle.oas_elements.specs.Ascending.{Ascends}
+use Rattle.oas_elements.specs.Bag.{items, put_more, with_more, IsBag}
+use Rattle.oas_elements.specs.Laws.BagLaws.{adding}
+use Rattle.oas_elements.specs.Same.{same_element, normal, IsNormal}
+use Rattle.oas_elements.specs.Laws.SameLaws.{normal-normal, weight_of-normal, weight_of-normal-le}
+use Rattle.oas_elements.specs.Weight.{weight_of}
+use Rattle.oas_elements.specs.Meaning.{Meaning, SameLayout, count_of, elements_of, cells_sum, element_count, cells_weight}
+use Rattle.oas_elements.specs.Laws.ContentsLaws.{length-items-with_more, weight-with_more}
+use Rattle.oas_elements.proofs.LawProofs.{symmetric, transitive}
+use Rattle.oas_elements.proofs.Order.{IsBag-empty, IsBag-put_more}
+use Rattle.oas_elements.proofs.Sealed.{name_cmp}
+use Rattle.oas_file.specs.Names.{same_string}
+use Rattle.oas_file.specs.Meaning.{has_twice}
 use Rattle.oas_form.specs.Records.{Cells}
 use Rattle.oas_form.specs.Canonical.{IsOrdered}
 use Rattle.oas_form.specs.Layouts.{SameCount, SameWeight, LeastWeight}

@@ -19,10 +19,10 @@ use Rattle.oas_record.specs.declared.references.CellRef.TheVariants as cell
 use Rattle.oas_record.specs.Heads.{magic, version, version_in, ShortestUnit, start_parts, head_in}
 use Rattle.oas_record.specs.Ends.{end_bytes as ending}
 use Rattle.oas_record.specs.Records.{record_in, IsInner}
-use Rattle.oas_layout.specs.declared.element.Element.{Element}
-use Rattle.oas_layout.specs.Weight.{weight_of}
-use Rattle.oas_layout.specs.Meaning.{cells_weight}
-use Rattle.oas_layout.specs.Sound.{IsSound, IsUnit}
+use Rattle.oas_elements.specs.declared.element.Element.{Element}
+use Rattle.oas_elements.specs.Weight.{weight_of}
+use Rattle.oas_elements.specs.Meaning.{cells_weight}
+use Rattle.oas_elements.specs.Sound.{IsSound, IsUnit}
 use Rattle.oas_form.specs.Records.{Cells, element_record, records_of}
 use Rattle.oas_form.specs.Bytes.{string_bytes, element_bytes, elements_bytes, cells_bytes, unit_bytes, head_bytes, end_bytes, canonical_bytes}
 use Rattle.oas_form.specs.Spelling.{CanonicalBytesSpell}

@@ -9,27 +9,27 @@ use Rattle.oas_ring.specs.declared.point.Point.{Point}
 use Rattle.oas_record.specs.declared.references.TextRef.TheVariants as text
 use Rattle.oas_record.specs.Info.{info_in}
 use Rattle.oas_record.specs.Texts.{IsTextInfo, IsCanonicalText, text_record_in}
-use Rattle.oas_layout.specs.Grid.{is_coordinate}
-use Rattle.oas_layout.specs.Sound.{FitsText, IsSound, Fits}
+use Rattle.oas_elements.specs.Grid.{is_coordinate}
+use Rattle.oas_elements.specs.Sound.{FitsText, IsSound, Fits}
 use Rattle.oas_form.specs.Records.{spot_at, element_record}
 use Rattle.oas_form.specs.Bytes.{string_bytes, place_bytes, element_bytes}
 use Rattle.oas_record.specs.declared.records.Record.TheVariants as record_of
 use Rattle.oas_record.specs.Records.{record_in}
-use Rattle.oas_layout.specs.Weight.{weight_of, lacks_points}
+use Rattle.oas_elements.specs.Weight.{weight_of, lacks_points}
 use Rattle.oas_form.specs.Spelling.{HasPoint}
 use Rattle.oas_record.specs.References.{text_in}
 use Rattle.oas_record.specs.declared.references.TextRef.{TextRef}
-use Rattle.oas_file.specs.oas_drawing.GivenFields.{given_fields}
-use Rattle.oas_file.specs.oas_drawing.declared.drawn.Drawn.TheVariants.{Named}
-use Rattle.oas_file.specs.oas_drawing.Modal.{ModalState, stepped}
-use Rattle.oas_file.specs.oas_drawing.Drawing.{text_at, drawn_at}
+use Rattle.oas_file.specs.GivenFields.{given_fields}
+use Rattle.oas_file.specs.Drawn.TheVariants.{Named}
+use Rattle.oas_file.specs.Modal.{ModalState, stepped}
+use Rattle.oas_file.specs.Drawing.{text_at, drawn_at}
 use Rattle.oas_shape.specs.Steps.{still}
-use Rattle.oas_layout.specs.declared.limits.Limits.{Limits}
-use Rattle.oas_file.specs.oas_drawing.Reasons.{is_on_grid, draw_reason}
+use Rattle.oas_elements.specs.declared.limits.Limits.{Limits}
+use Rattle.oas_file.specs.Reasons.{is_on_grid, draw_reason}
 use Rattle.oas_record.specs.Texts as texts
 use Rattle.oas_record.specs.declared.texts.Text.{Text as OneText}
-use Rattle.oas_layout.specs.declared.element.Element.TheVariants.{Text}
-use Rattle.oas_file.specs.oas_drawing.declared.kinds.Kind.TheVariants as kinds
+use Rattle.oas_elements.specs.declared.element.Element.TheVariants.{Text}
+use Rattle.oas_file.specs.Kind.TheVariants as kinds
 use Rattle.oas_form.proofs.ElementSpelling.{Inner, info_byte}
 use Rattle.oas_form.proofs.FieldsFit.{is_spelled, number_fits, labelled_fits}
 use Rattle.oas_form.proofs.FieldsGiven.{Small, StringFits, FieldsFit, fit, string_fits, there, small, moved_fits}

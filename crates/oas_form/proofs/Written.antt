@@ -4,15 +4,15 @@ use Rattle.std.specs.List.{AllByRecursion}
 use Rattle.std.specs.Map.{keys_of}
 use Rattle.oas_num.specs.Style.{Shortest}
 use Rattle.oas_num.specs.Texts.{IsName}
-use Rattle.oas_layout.specs.declared.limits.Limits.{Limits}
-use Rattle.oas_layout.specs.declared.profile.Profile.{Profile}
-use Rattle.oas_layout.specs.declared.element.Element.{Element}
-use Rattle.oas_layout.specs.Weight.{lacks_points}
-use Rattle.oas_layout.specs.Grid.{fits_grid}
-use Rattle.oas_layout.specs.Sound.{IsSound}
-use Rattle.oas_layout.specs.Meaning.{Meaning, element_count, cells_weight}
-use Rattle.oas_layout.specs.Contents.{Cell, Contents, IsCell, IsLayout, AllSound, expanded, meaning_of}
-use Rattle.oas_file.specs.oas_modal.Stands.{records_mean}
+use Rattle.oas_elements.specs.declared.limits.Limits.{Limits}
+use Rattle.oas_elements.specs.declared.profile.Profile.{Profile}
+use Rattle.oas_elements.specs.declared.element.Element.{Element}
+use Rattle.oas_elements.specs.Weight.{lacks_points}
+use Rattle.oas_elements.specs.Grid.{fits_grid}
+use Rattle.oas_elements.specs.Sound.{IsSound}
+use Rattle.oas_elements.specs.Meaning.{Meaning, element_count, cells_weight}
+use Rattle.oas_elements.specs.Contents.{Cell, Contents, IsCell, IsLayout, AllSound, expanded, meaning_of}
+use Rattle.oas_file.specs.Stands.{records_mean}
 use Rattle.oas_file.specs.Laws.FileLaws.{file_of}
 use Rattle.oas_file.specs.Acceptance.{Means}
 use Rattle.oas_form.specs.Records.{Cells, records_of}

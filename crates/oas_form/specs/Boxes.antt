@@ -3,11 +3,11 @@ use Rattle.std.specs.Prelude.{◌≡◌, ◌↔◌, ℕ, List, [], unwrap_or, �
 use Rattle.std.specs.List.{AllByRecursion}
 use Rattle.oas_ring.specs.declared.rectangles.Corners.{Corners}
 use Rattle.oas_ring.specs.Rectangles.{IsBox}
-use Rattle.oas_layout.specs.declared.element.Element.{Element}
-use Rattle.oas_layout.specs.declared.element.Element.TheVariants.{Polygon}
-use Rattle.oas_layout.specs.declared.limits.Limits.{Limits}
-use Rattle.oas_layout.specs.declared.profile.Profile.TheVariants.{One, Two}
-use Rattle.oas_layout.specs.Meaning.{Meaning, SameLayout, elements_of}
+use Rattle.oas_elements.specs.declared.element.Element.{Element}
+use Rattle.oas_elements.specs.declared.element.Element.TheVariants.{Polygon}
+use Rattle.oas_elements.specs.declared.limits.Limits.{Limits}
+use Rattle.oas_elements.specs.declared.profile.Profile.TheVariants.{One, Two}
+use Rattle.oas_elements.specs.Meaning.{Meaning, SameLayout, elements_of}
 use Rattle.oas_file.specs.Acceptance.{Means}
 use Rattle.oas_form.specs.Canonical.{CanonicalForm, IsCanonicalOf}
 

@@ -4,10 +4,10 @@ use Rattle.oas_num.specs.Ratio.{Ratio}
 use Rattle.oas_num.specs.Writing.{shortest, shortest_signed, shortest_gdelta}
 use Rattle.oas_ring.specs.declared.point.Point.{Point}
 use Rattle.oas_record.specs.Heads.{magic}
-use Rattle.oas_layout.specs.declared.element.Element.{Element}
-use Rattle.oas_layout.specs.declared.element.Element.TheVariants.{Placement, Text, Rectangle, Polygon, Path, Circle}
-use Rattle.oas_layout.specs.Element.{turn_count}
-use Rattle.oas_layout.specs.Meaning.{Meaning}
+use Rattle.oas_elements.specs.declared.element.Element.{Element}
+use Rattle.oas_elements.specs.declared.element.Element.TheVariants.{Placement, Text, Rectangle, Polygon, Path, Circle}
+use Rattle.oas_elements.specs.Element.{turn_count}
+use Rattle.oas_elements.specs.Meaning.{Meaning}
 use Rattle.oas_form.specs.Records.{Cells, first_of}
 
 -- the length of a string, and the string

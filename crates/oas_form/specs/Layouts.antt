@@ -2,12 +2,12 @@
 use Rattle.std.specs.Prelude.{◌≡◌, ℕ, ◌+◌, ◌*◌, ◌≤◌, List, length, false}
 use Rattle.std.specs.Map.{keys_of}
 use Rattle.oas_num.specs.Script.{Script}
-use Rattle.oas_layout.specs.declared.limits.Limits.{Limits}
-use Rattle.oas_layout.specs.declared.profile.Profile.{Profile}
-use Rattle.oas_layout.specs.declared.profile.Profile.TheVariants.{One}
-use Rattle.oas_layout.specs.Meaning.{Meaning, SameLayout, element_count, cells_weight}
-use Rattle.oas_layout.specs.Contents.{Contents, IsLayout, expanded, meaning_of}
-use Rattle.oas_file.specs.oas_names.Meaning.{has_twice}
+use Rattle.oas_elements.specs.declared.limits.Limits.{Limits}
+use Rattle.oas_elements.specs.declared.profile.Profile.{Profile}
+use Rattle.oas_elements.specs.declared.profile.Profile.TheVariants.{One}
+use Rattle.oas_elements.specs.Meaning.{Meaning, SameLayout, element_count, cells_weight}
+use Rattle.oas_elements.specs.Contents.{Contents, IsLayout, expanded, meaning_of}
+use Rattle.oas_file.specs.Meaning.{has_twice}
 use Rattle.oas_file.specs.Acceptance.{Accepted, Means}
 use Rattle.oas_file.specs.Reading.{IsRead}
 use Rattle.oas_form.specs.Canonical.{IsOrdered, CanonicalForm, IsCanonicalOf}

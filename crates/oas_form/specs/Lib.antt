@@ -1,8 +1,28 @@
+pub use Rattle.oas_file.specs.Acceptance
+pub use Rattle.oas_file.specs.Deciding
+pub use Rattle.oas_file.specs.Drawing
+pub use Rattle.oas_file.specs.Drawn
+pub use Rattle.oas_file.specs.Files
+pub use Rattle.oas_file.specs.Gathering
+pub use Rattle.oas_file.specs.Laws.FileLaws
+pub use Rattle.oas_file.specs.Meaning
+pub use Rattle.oas_file.specs.Modal
+pub use Rattle.oas_file.specs.Names
+pub use Rattle.oas_file.specs.Position
+pub use Rattle.oas_file.specs.ReaderTaken
+pub use Rattle.oas_file.specs.Reading
+pub use Rattle.oas_file.specs.Reasons
+pub use Rattle.oas_file.specs.References
+pub use Rattle.oas_file.specs.Standing
+pub use Rattle.oas_file.specs.Stands
+pub use Rattle.oas_file.specs.Stores
+pub use Rattle.oas_file.specs.Taken
+pub use Rattle.oas_file.specs.Turns
+pub use Rattle.oas_file.specs.Values
 pub mod Records
 pub mod RecordMeaning
 pub mod Canonical
 pub mod Bytes
-pub mod Alone
 pub mod Putting
 pub mod Layouts
 pub mod Spelling
@@ -11,7 +31,3 @@ pub mod Boxes
 pub mod Judging
 pub mod Comparing
 pub mod Laws
-pub use Rattle.oas_file.specs.oas_drawing
-pub use Rattle.oas_file.specs as oas_file
-pub use Rattle.oas_file.specs.oas_modal
-pub use Rattle.oas_file.specs.oas_names

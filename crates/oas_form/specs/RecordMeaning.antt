@@ -9,12 +9,12 @@ use Rattle.oas_num.specs.Ratio.{Ratio, IsLowest}
 use Rattle.oas_num.specs.Style.{Shortest}
 use Rattle.oas_record.specs.declared.heads.Head.{Head}
 use Rattle.oas_record.specs.declared.records.Record.{Record}
-use Rattle.oas_layout.specs.declared.limits.Limits.{Limits}
-use Rattle.oas_layout.specs.Grid.{fits_grid}
-use Rattle.oas_layout.specs.Weight.{lacks_points}
-use Rattle.oas_layout.specs.Meaning.{element_count, cells_weight}
-use Rattle.oas_file.specs.oas_names.Meaning.{has_twice}
-use Rattle.oas_file.specs.oas_modal.Stands.{records_mean}
+use Rattle.oas_elements.specs.declared.limits.Limits.{Limits}
+use Rattle.oas_elements.specs.Grid.{fits_grid}
+use Rattle.oas_elements.specs.Weight.{lacks_points}
+use Rattle.oas_elements.specs.Meaning.{element_count, cells_weight}
+use Rattle.oas_file.specs.Meaning.{has_twice}
+use Rattle.oas_file.specs.Stands.{records_mean}
 use Rattle.oas_file.specs.Files.{FileIn}
 use Rattle.oas_file.specs.Acceptance.{Allowed, IsWhole}
 use Rattle.oas_form.specs.Records.{Cells, records_of}

@@ -1,9 +1,9 @@
 -- From the canonical form by profile one to that by profile two.
 use Rattle.std.specs.Prelude.{◌↔◌, ℕ, List}
-use Rattle.oas_layout.specs.declared.limits.Limits.{Limits}
-use Rattle.oas_layout.specs.declared.profile.Profile.{Profile}
-use Rattle.oas_layout.specs.declared.profile.Profile.TheVariants.{One, Two}
-use Rattle.oas_layout.specs.Meaning.{Meaning, SameLayout}
+use Rattle.oas_elements.specs.declared.limits.Limits.{Limits}
+use Rattle.oas_elements.specs.declared.profile.Profile.{Profile}
+use Rattle.oas_elements.specs.declared.profile.Profile.TheVariants.{One, Two}
+use Rattle.oas_elements.specs.Meaning.{Meaning, SameLayout}
 use Rattle.oas_form.specs.Canonical.{CanonicalForm, IsCanonicalOf}
 
 -- layouts that are the same by profile one are the same by profile two

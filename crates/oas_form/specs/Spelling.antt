@@ -3,11 +3,11 @@ use Rattle.std.specs.Prelude.{◌+◌, ◌*◌, ◌^◌, ◌<◌, ◌≤◌, fal
 use Rattle.std.specs.List.{AllByRecursion}
 use Rattle.oas_num.specs.Style.{Shortest}
 use Rattle.oas_num.specs.Texts.{IsName}
-use Rattle.oas_layout.specs.declared.element.Element.{Element}
-use Rattle.oas_layout.specs.declared.element.Element.TheVariants.{Path}
-use Rattle.oas_layout.specs.Meaning.{Meaning, cells_weight}
+use Rattle.oas_elements.specs.declared.element.Element.{Element}
+use Rattle.oas_elements.specs.declared.element.Element.TheVariants.{Path}
+use Rattle.oas_elements.specs.Meaning.{Meaning, cells_weight}
 use Rattle.oas_file.specs.Files.{FileIn}
-use Rattle.oas_layout.specs.Sound.{IsSound, IsUnit}
+use Rattle.oas_elements.specs.Sound.{IsSound, IsUnit}
 use Rattle.oas_form.specs.Records.{records_of}
 use Rattle.oas_form.specs.Bytes.{canonical_bytes}
 

@@ -5,14 +5,14 @@ use oas_num::{Sink, SinkFault};
 
 /// Compares the bytes that it is given with those that it was made of. It fails at the first that differs.
 #[derive(Drop)]
-pub(crate) struct Comparer<'a> {
+pub struct Comparer<'a> {
     rest: &'a [u8],
     differs: bool,
 }
 
 impl<'a> Comparer<'a> {
     /// A sink that was given nothing.
-    pub(crate) fn new(bytes: &'a [u8]) -> Comparer<'a>
+    pub fn new(bytes: &'a [u8]) -> Comparer<'a>
         ensures rest { result.rest.now ≡ bytes.now }
         ensures same { result.differs ≡ false }
     {
@@ -23,7 +23,7 @@ impl<'a> Comparer<'a> {
     }
 
     /// Whether it was given exactly the bytes that it was made of.
-    pub(crate) fn is_done(&self) -> bool
+    pub fn is_done(&self) -> bool
         ensures { IsTrue result ↔ ((self.now.differs ≡ false) × (self.now.rest.now ≡ [])) }
     {
         !self.differs && self.rest.is_empty()

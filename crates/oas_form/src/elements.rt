@@ -2,17 +2,17 @@
 
 ghost use Rattle.std.specs.Prelude.{◌≡◌, ◌<◌, ◌≤◌, ◌^◌, length, true};
 ghost use Rattle.std.specs.List.{list_all};
-ghost use Rattle.oas_layout.specs.declared.element.Element.TheVariants.{Placement, Text, Rectangle, Polygon, Path, Circle};
-ghost use Rattle.oas_layout.specs.Element.{turn_count};
-ghost use Rattle.oas_layout.specs.Grid.{is_coordinate, is_grid_point};
-ghost use Rattle.oas_layout.specs.Weight.{weight_of};
-ghost use Rattle.oas_layout.specs.Sound.{IsSound};
+ghost use Rattle.oas_elements.specs.declared.element.Element.TheVariants.{Placement, Text, Rectangle, Polygon, Path, Circle};
+ghost use Rattle.oas_elements.specs.Element.{turn_count};
+ghost use Rattle.oas_elements.specs.Grid.{is_coordinate, is_grid_point};
+ghost use Rattle.oas_elements.specs.Weight.{weight_of};
+ghost use Rattle.oas_elements.specs.Sound.{IsSound};
 ghost use Rattle.oas_form.specs.Bytes.{placement_info, element_bytes};
 ghost use Rattle.oas_form.specs.Putting.{Counts};
 
 use crate::parts::{put_bytes, put_coordinate, put_number, put_place, put_string};
 use crate::point_lists::put_points;
-use oas_layout::{Element, Turns};
+use oas_elements::{Element, Turns};
 use oas_num::{Sink, SinkFault};
 use oas_ring::Point;
 

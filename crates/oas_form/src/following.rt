@@ -2,10 +2,10 @@
 //! memory.
 ghost use Rattle.std.specs.Prelude.{◌≡◌, true, false, IfSome};
 ghost use Rattle.oas_num.specs.Texts.{IsName, IsLabel};
-ghost use Rattle.oas_layout.specs.declared.element.Element.TheVariants.{Placement, Text};
-ghost use Rattle.oas_layout.specs.Element.{element_cmp};
+ghost use Rattle.oas_elements.specs.declared.element.Element.TheVariants.{Placement, Text};
+ghost use Rattle.oas_elements.specs.Element.{element_cmp};
 
-use oas_layout::{Element, Turns};
+use oas_elements::{Element, Turns};
 use std::cmp::Ordering;
 
 /// How an element compares with a placement of the cell with this name; None where it is no placement.

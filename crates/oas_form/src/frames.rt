@@ -1,11 +1,11 @@
-//! What comes before and after the cells: the magic, START and END.
+//! What is put around elements: the magic and START, the CELL of each cell, and END.
 
-ghost use Rattle.std.specs.Prelude.{◌∷◌, ◌≤◌, IfOk};
+ghost use Rattle.std.specs.Prelude.{◌∷◌, ◌+◌, ◌≤◌, length, IfOk};
 ghost use Rattle.oas_num.specs.Writing.{shortest};
-ghost use Rattle.oas_form.specs.Bytes.{unit_bytes, head_bytes, end_bytes};
+ghost use Rattle.oas_form.specs.Bytes.{unit_bytes, head_bytes, opening_bytes, end_bytes};
 ghost use Rattle.oas_form.specs.Putting.{Counts};
 
-use crate::parts::{put_bytes, put_number};
+use crate::parts::{put_bytes, put_number, put_string};
 use oas_num::{Sink, SinkFault};
 
 /// The magic, the id of START, and the version string `1.0`.
@@ -13,6 +13,9 @@ const START: [u8; 18] = *b"%SEMI-OASIS\r\n\x01\x031.0";
 
 /// The offset-flag 0, and twelve table-offsets of 0.
 const OFFSETS: [u8; 13] = [0; 13];
+
+/// The id of CELL by its name.
+const CELL: [u8; 1] = [14];
 
 /// The id of END, and the length of its padding.
 const END: [u8; 3] = [0x02, 0xFC, 0x01];
@@ -62,6 +65,16 @@ pub fn put_head<K: Sink>(sink: &mut K, num: u64, den: u64) -> Result<u64, SinkFa
     let spelled = put_unit(sink, num, den)?;
     let offsets = put_bytes(sink, &OFFSETS)?;
     Ok(front + spelled + offsets)
+}
+
+/// Puts a CELL record by name.
+pub fn put_opening<K: Sink>(sink: &mut K, name: &[u8]) -> Result<u64, SinkFault>
+    ensures counts { Counts K.given K.failures sink.old (opening_bytes name.now) result sink.new }
+    ensures short { IfOk result (λ n. n ≤ 11 + length name.now) }
+{
+    let id = put_bytes(sink, &CELL)?;
+    let string = put_string(sink, name)?;
+    Ok(id + string)
 }
 
 /// Puts END: 252 zeros of padding, and no signature.

@@ -4,20 +4,19 @@ ghost use Rattle.std.specs.Ordering.{is_gt};
 ghost use Rattle.oas_record.specs.declared.records.Record.TheVariants.{Cell};
 ghost use Rattle.oas_record.specs.declared.references.CellRef.TheVariants.{Name as ByName};
 ghost use Rattle.oas_num.specs.Texts.{IsName, IsLabel};
-ghost use Rattle.oas_layout.specs.declared.element.Element.TheVariants.{Placement, Text};
-ghost use Rattle.oas_layout.specs.declared.profile.Profile.{Profile};
-ghost use Rattle.oas_layout.specs.Sound.{IsSound};
-ghost use Rattle.oas_layout.specs.Grid.{fits_grid};
-ghost use Rattle.oas_layout.specs.Weight.{weight_of, lacks_points};
+ghost use Rattle.oas_elements.specs.declared.element.Element.TheVariants.{Placement, Text};
+ghost use Rattle.oas_elements.specs.declared.profile.Profile.{Profile};
+ghost use Rattle.oas_elements.specs.Sound.{IsSound};
+ghost use Rattle.oas_elements.specs.Grid.{fits_grid};
+ghost use Rattle.oas_elements.specs.Weight.{weight_of, lacks_points};
 ghost use Rattle.oas_form.specs.Bytes.{opening_bytes, element_bytes, head_bytes, end_bytes};
 ghost use Rattle.oas_form.specs.Judging.{IsAbove, IsNotBelow, Stands, GoesOn, GoesOnDrawing, GoesOnRefusing};
 
-use crate::cells::put_opening;
 use crate::comparing::Comparer;
 use crate::elements::put_element;
 use crate::following::{place_over, placement_order, text_order, write_over};
-use crate::frames::{put_end, put_head};
-use oas_layout::{Element, Turns};
+use crate::frames::{put_end, put_head, put_opening};
+use oas_elements::{Element, Turns};
 use oas_num::{Fraction, Name};
 use std::cmp::Ordering;
 

@@ -1,4 +1,4 @@
-//! The canonical form of a layout: what it is, its laws, and its writer.
+//! The canonical form of a layout: what it is, its laws, its judge, and the parts of its writers.
 //!
 //! What this crate promises to the crates above it:
 //!
@@ -6,13 +6,7 @@
 //!   file in the shortest style whose cells ascend by name, and within each the elements, each in the form that the profile
 //!   keeps. It is the canonical form of a file (`IsCanonicalOf`) if it means the same layout. There is also a function of the
 //!   layout (`canonical_bytes`, specs/Bytes.antt).
-//! - [`put_canonical`] puts the canonical bytes of a layout into a sink, and returns how many they are; after a fault a
-//!   prefix of them was put (`Counts`, specs/Putting.antt). [`write_canonical`] writes exactly these bytes to a writer. It
-//!   fails only with `Why::Write`, after a prefix of them that is as long as its place says (`IsWritten`, `IsCutOff`,
-//!   oas_num's specs/Written.antt). The contracts of both say that these bytes are a canonical form and mean the layout.
-//!   Neither allocates. [`has_canonical_bytes`] says whether bytes are these. [`put_cell_alone`] puts the canonical bytes of
-//!   one cell of a layout alone, with its unit (`cell_alone`, specs/Alone.antt), with the same promises.
-//! - [`laws`] connects the three, from the definitions alone. Each accepted file has a canonical form, and it is the same
+//! - [`laws`] connects these, from the definitions alone. Each accepted file has a canonical form, and it is the same
 //!   under all limits that accept the file. What is accepted under limits is accepted under larger ones. One layout has one
 //!   canonical form; it is what is written for each layout that is the same; it is accepted, and its own canonical form. Two
 //!   accepted files mean the same layout exactly if they have one canonical form. It has as many elements as its file, weighs
@@ -22,15 +16,16 @@
 //!   [`FormJudge`] decides this: of what was read it keeps the name of the open cell and the latest element. It judges a
 //!   placement or a text after one of its kind by its fields alone, and reuses that one's memory ([`FormJudge::place_next`]).
 //!   [`is_head`] and [`is_end`] say whether bytes are those before the first record and END.
-//! - The parts of the writer, for a caller that has its elements in another form: each puts the bytes of a part, and returns
-//!   how many they are ([`put_head`], [`put_opening`], [`put_rectangle`], [`put_step`] and their like, [`put_end`]).
+//! - The parts of a writer: each puts the bytes of a part into a sink, and returns how many they are; after a fault a prefix of
+//!   them was put (`Counts`, specs/Putting.antt). They are [`put_head`], [`put_opening`], [`put_rectangle`], [`put_step`] and
+//!   their like, and [`put_end`]. None of them allocates. A [`Comparer`] is a sink that compares what it is given with bytes.
 //! - [`meaning_laws`] and [`spelling_laws`] say about the records of a canonical file (`records_of`, specs/Records.antt) what
 //!   they mean, that they are accepted, and how they are spelled.
 //!
 //! # How it is built
 //!
 //! oas_form uses oas_file, which says which files are accepted and what they mean, and what is below that. What it promises
-//! to the crates above: what a canonical form is, its laws, and its writer.
+//! to the crates above: what a canonical form is, its laws, its judge, and the parts of its writers.
 //!
 //! | specs/ | What |
 //! |---|---|
@@ -38,7 +33,6 @@
 //! (`IsCanonicalOf`), and what holds for them |
 //! | Records | the records of cells: each CELL by its name, and its elements with all their fields (`records_of`) |
 //! | Bytes | the function from a layout to its bytes (`canonical_bytes`) |
-//! | Alone | one cell of a layout alone |
 //! | Layouts | layouts in order, what is written for a layout, what a canonical form keeps of a file |
 //! | Rekeying | from the canonical form by profile one to that by profile two |
 //! | Boxes | how the profiles differ |
@@ -59,7 +53,7 @@
 //!    cells that they mean: since a canonical record gives all its fields and nothing is relative, it draws its element,
 //!    whatever the variables were (`draws`, `canonical_means`, proofs/MeantLemmas.antt).
 //! 2. *One layout has one form* (`one_canonical_form`, proofs/Forms.antt). Cells in order that are the same by counting are
-//!    equal (`equal_in_order`, proofs/OrderedLayouts.antt): element for element by oas_layout's law of equal counts, since
+//!    equal (`equal_in_order`, proofs/OrderedLayouts.antt): element for element by oas_elements's law of equal counts, since
 //!    the elements are in their kept forms, and cell for cell by their look-ups. By 1 two canonical forms then have one
 //!    record list, and oas_file's `one_spelling` completes it. The other sentences of the headline are equations of meanings,
 //!    connected by `means_one` (a file means one layout) and the equivalence of sameness: `limits_apart`, `forms_equal`,
@@ -97,16 +91,11 @@
 //!    from two to one it goes where there is no box (proofs/Boxes.antt): whether an element is one is a test that gives the
 //!    same for its kept form by profile one, so of layouts that are the same both have boxes or neither (`counts_alike`), and
 //!    what is no box is kept alike by both profiles.
-//! 9. *The writer* (src/writing.rt over frames.rt, cells.rt, elements.rt, point_lists.rt and parts.rt) needs no sorting: a
-//!    layout's cells and elements come in order, each element with its count. `Counts` (specs/Putting.antt) is every part's
-//!    contract. The proofs carry one record, `PutSoFar whole left` (proofs/PuttingLemmas.antt): a prefix of the whole was put
-//!    and counted, and this is left. It is the invariant of the loops over points (proofs/PointPutting.antt), over equal
-//!    elements, the elements of a cell and the cells (proofs/ElementPutting.antt). A cell alone is a layout too
-//!    (proofs/AloneLemmas.antt), so what is said about a layout's bytes holds for it.
+//! 9. *The parts of a writer* (src/frames.rt, elements.rt, point_lists.rt and parts.rt). `Counts` (specs/Putting.antt) is every
+//!    part's contract. The proofs carry one record, `PutSoFar whole left` (proofs/PuttingLemmas.antt): a prefix of the whole
+//!    was put and counted, and this is left. It is the invariant of the loop over points too (proofs/PointPutting.antt).
 #![tactic(auto)]
 
-mod alone;
-mod cells;
 mod comparing;
 mod elements;
 mod following;
@@ -114,22 +103,19 @@ mod frames;
 pub mod judge_laws;
 mod judging;
 pub mod laws;
-mod matching;
 pub mod meaning_laws;
 mod parts;
 mod point_lists;
 pub mod spelling_laws;
-mod writing;
 
 // The crates below, for those above.
-pub use alone::put_cell_alone;
-pub use cells::put_opening;
+pub use comparing::Comparer;
 pub use elements::{put_circle, put_placement, put_rectangle, put_text};
-pub use frames::{put_end, put_head};
+pub use frames::{put_end, put_head, put_opening};
 pub use judging::{FormJudge, is_end, is_head};
-pub use matching::has_canonical_bytes;
-pub use oas_file;
-pub use oas_file::{oas_modal, oas_names};
+pub use oas_file::oas_reader::{
+    CellStore, CountedCell, NameTable, Reader, Taken, accept_cells, cell_meant,
+};
+pub use oas_file::{find_end_of_input, laws as file_laws, take_record, take_records};
 pub use parts::{put_bytes, put_coordinate, put_number, put_place};
 pub use point_lists::put_step;
-pub use writing::{put_canonical, write_canonical};

@@ -1,9 +1,9 @@
 //! The parts of records, put and counted.
 
-ghost use Rattle.std.specs.Prelude.{◌≡◌, ◌+◌, ◌≤◌, ◌^◌, length, true, IfOk};
+ghost use Rattle.std.specs.Prelude.{◌≡◌, ◌+◌, ◌≤◌, length, true, IfOk};
 ghost use Rattle.oas_num.specs.Style.{code};
 ghost use Rattle.oas_num.specs.Writing.{shortest, shortest_signed};
-ghost use Rattle.oas_layout.specs.Grid.{is_coordinate};
+ghost use Rattle.oas_elements.specs.Grid.{is_coordinate};
 ghost use Rattle.oas_form.specs.Bytes.{string_bytes, place_bytes};
 ghost use Rattle.oas_form.specs.Putting.{Counts};
 
@@ -65,7 +65,6 @@ pub fn put_place<K: Sink>(sink: &mut K, x: i64, y: i64) -> Result<u64, SinkFault
 
 /// Puts a string: its length, and its bytes.
 pub(crate) fn put_string<K: Sink>(sink: &mut K, text: &[u8]) -> Result<u64, SinkFault>
-    requires { length text.now ≤ 2 ^ 30 }
     ensures counts { Counts K.given K.failures sink.old (string_bytes text.now) result sink.new }
     ensures short { IfOk result (λ n. n ≤ 10 + length text.now) }
 {

@@ -4,7 +4,7 @@ ghost use Rattle.std.specs.Prelude.{◌≡◌, ◌∷◌, ◌+◌, ◌*◌, ◌<
 ghost use Rattle.std.specs.List.{list_all};
 ghost use Rattle.oas_num.specs.Writing.{shortest_gdelta};
 ghost use Rattle.oas_num.specs.Deltas.{step};
-ghost use Rattle.oas_layout.specs.Grid.{is_grid_point};
+ghost use Rattle.oas_elements.specs.Grid.{is_grid_point};
 ghost use Rattle.oas_form.specs.Bytes.{step_bytes, list_bytes, points_bytes};
 ghost use Rattle.oas_form.specs.Putting.{Counts};
 

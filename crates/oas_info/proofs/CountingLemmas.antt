@@ -14,11 +14,11 @@ use Rattle.std.proofs.lemmas.List.{length-replicate}
 use Rattle.std.proofs.lemmas.List.Folds.{sum_by-replicate}
 use Rattle.std.proofs.lemmas.List.Sums.{sum_by-cons, sum_by-append}
 use Rattle.std.proofs.lemmas.Cmp.{tied_itself}
-use Rattle.oas_layout.specs.declared.element.Element.{Element}
-use Rattle.oas_layout.specs.Bag.{items}
-use Rattle.oas_layout.specs.Meaning.{element_count}
-use Rattle.oas_layout.specs.Weight.{weight_of}
-use Rattle.oas_layout.specs.Contents.{Cell, Contents, expanded, meaning_of, IsCell, IsLayout}
+use Rattle.oas_elements.specs.declared.element.Element.{Element}
+use Rattle.oas_elements.specs.Bag.{items}
+use Rattle.oas_elements.specs.Meaning.{element_count}
+use Rattle.oas_elements.specs.Weight.{weight_of}
+use Rattle.oas_elements.specs.Contents.{Cell, Contents, expanded, meaning_of, IsCell, IsLayout}
 use Rattle.oas_info.specs.declared.group.Group.{Group}
 use Rattle.oas_info.specs.declared.totals.Totals.{Totals}
 use Rattle.oas_info.specs.Groups.{group_cmp, kind_of, layer_of, if_same, if_in, count_of, number_of, IsTally, Grows}

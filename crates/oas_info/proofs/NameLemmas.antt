@@ -11,12 +11,12 @@ use Rattle.std.proofs.lemmas.Cmp.{tied_itself, nat_list_cmp_total}
 use Rattle.std.specs.Ordering.{is_eq}
 use Rattle.std.specs.declared.cmp.Ordering.{Ordering}
 use Rattle.oas_num.specs.Texts.{IsName}
-use Rattle.oas_layout.specs.declared.element.Element.{Element}
-use Rattle.oas_layout.specs.declared.element.Element.TheVariants as element
-use Rattle.oas_layout.specs.Bag.{items, IsTally}
-use Rattle.oas_layout.specs.Element.{element_cmp}
-use Rattle.oas_layout.specs.Sound.{IsSound}
-use Rattle.oas_layout.specs.Contents.{Cell, Contents, expanded, meaning_of, IsCell, IsLayout}
+use Rattle.oas_elements.specs.declared.element.Element.{Element}
+use Rattle.oas_elements.specs.declared.element.Element.TheVariants as element
+use Rattle.oas_elements.specs.Bag.{items, IsTally}
+use Rattle.oas_elements.specs.Element.{element_cmp}
+use Rattle.oas_elements.specs.Sound.{IsSound}
+use Rattle.oas_elements.specs.Contents.{Cell, Contents, expanded, meaning_of, IsCell, IsLayout}
 use Rattle.oas_info.specs.Names.{is_named, has_name, placed_by, places, is_placed_in, is_placed, is_defined, Adds, HasNames}
 
 -- ---- truth values

@@ -1,6 +1,6 @@
 -- The facts of a layout.
 use Rattle.std.specs.Prelude.{◌≡◌, length}
-use Rattle.oas_layout.specs.Meaning.{Meaning, element_count, cells_weight}
+use Rattle.oas_elements.specs.Meaning.{Meaning, element_count, cells_weight}
 use Rattle.oas_info.specs.declared.facts.Facts.{Facts}
 use Rattle.oas_info.specs.Groups.{AreCounts}
 use Rattle.oas_info.specs.Names.{AreNames, is_undefined, is_unplaced}

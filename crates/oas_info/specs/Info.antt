@@ -1,8 +1,8 @@
 -- What is reported about a layout.
 use Rattle.std.specs.Prelude.{◌≡◌, length}
-use Rattle.oas_layout.specs.Meaning.{Meaning}
+use Rattle.oas_elements.specs.Meaning.{Meaning}
 use Rattle.oas_info.specs.Facts.{AreFacts}
-use Rattle.oas_run_form.specs.oas_form.Bytes.{canonical_bytes}
+use Rattle.oas_writing.specs.Bytes.{canonical_bytes}
 use Rattle.oas_info.specs.declared.info.Info.{Info}
 
 -- its facts, and the length of its canonical form

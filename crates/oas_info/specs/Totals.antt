@@ -1,8 +1,8 @@
 -- What the elements of a layout add up to.
 use Rattle.std.specs.Prelude.{◌≡◌, ℕ, ◌+◌, ◌<◌, ◌^◌, List, length, sum_by}
-use Rattle.oas_layout.specs.declared.element.Element.{Element}
-use Rattle.oas_layout.specs.Weight.{weight_of}
-use Rattle.oas_layout.specs.Meaning.{Meaning, cells_sum, element_count, cells_weight}
+use Rattle.oas_elements.specs.declared.element.Element.{Element}
+use Rattle.oas_elements.specs.Weight.{weight_of}
+use Rattle.oas_elements.specs.Meaning.{Meaning, cells_sum, element_count, cells_weight}
 use Rattle.oas_info.specs.declared.group.Group.{Group}
 use Rattle.oas_info.specs.declared.totals.Totals.{Totals}
 use Rattle.oas_info.specs.Groups.{count_of, number_of, IsTally, Grows, AreCounts}

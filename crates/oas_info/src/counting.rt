@@ -3,9 +3,9 @@
 ghost use Rattle.std.specs.Prelude.{◌≡◌, ◌+◌, ◌<◌, ◌^◌, ◌∷◌, Some, option_to_list, replicate, sum_by, unwrap_or, OnOk, IfOk};
 ghost use Rattle.std.specs.List.{AllByRecursion};
 ghost use Rattle.std.specs.BTreeMap.{Updates, IsOrdered, get};
-ghost use Rattle.oas_layout.specs.Bag.{items};
-ghost use Rattle.oas_layout.specs.Contents.{meaning_of};
-ghost use Rattle.oas_layout.specs.Weight.{weight_of};
+ghost use Rattle.oas_elements.specs.Bag.{items};
+ghost use Rattle.oas_elements.specs.Contents.{meaning_of};
+ghost use Rattle.oas_elements.specs.Weight.{weight_of};
 ghost use Rattle.oas_info.specs.declared.group.Group.{Group as GroupOf};
 ghost use Rattle.oas_info.specs.declared.group.Group.TheVariants.{Layer};
 ghost use Rattle.oas_info.specs.Groups.{kind_of, layer_of, if_same, number_of, IsTally, Grows};
@@ -14,7 +14,7 @@ ghost use Rattle.oas_info.specs.Totals.{of_elements, of_cell, HasRoom, Added, Ar
 
 use crate::group::Group;
 use crate::totals::Totals;
-use oas_run_form::oas_runs::{CompactLayout, KeyedElement, KeyedElements, ShownElement, show};
+use oas_writing::{Elements, KeyedElement, Layout, ShownElement, show};
 use std::alloc::{AllocError, Global};
 use std::collections::BTreeMap;
 
@@ -145,7 +145,7 @@ fn count_element(
 }
 
 /// Adds elements, each as often as it is there.
-fn count_elements(totals: &mut Totals, elements: KeyedElements<'_>) -> Result<(), AllocError>
+fn count_elements(totals: &mut Totals, elements: Elements<'_>) -> Result<(), AllocError>
     requires some { AllByRecursion (λ p. 0 < p.1) elements }
     requires room { HasRoom (of_elements (items elements)) totals.old }
     ensures { OnOk result (Added (of_elements (items elements.entry)) totals.old totals.new) }
@@ -157,11 +157,7 @@ fn count_elements(totals: &mut Totals, elements: KeyedElements<'_>) -> Result<()
 }
 
 /// Adds a cell with its name and its elements.
-fn count_cell(
-    totals: &mut Totals,
-    name: &[u8],
-    elements: KeyedElements<'_>,
-) -> Result<(), AllocError>
+fn count_cell(totals: &mut Totals, name: &[u8], elements: Elements<'_>) -> Result<(), AllocError>
     requires some { AllByRecursion (λ p. 0 < p.1) elements }
     requires room { HasRoom (of_cell (name.now, items elements)) totals.old }
     ensures { OnOk result (Added (of_cell (name.now, items elements.entry)) totals.old totals.new) }
@@ -172,7 +168,7 @@ fn count_cell(
 }
 
 /// What a layout adds up to. It goes over the distinct elements once, and allocates for the groups.
-pub(crate) fn totals_of(alloc: Global, layout: &CompactLayout) -> Result<Totals, AllocError>
+pub(crate) fn totals_of(alloc: Global, layout: &Layout) -> Result<Totals, AllocError>
     ensures { IfOk result (λ totals. AreTotals (meaning_of layout.now) totals) }
 {
     let mut totals = Totals {

@@ -1,14 +1,14 @@
 //! The facts of a layout.
 
 ghost use Rattle.std.specs.Prelude.{IfOk};
-ghost use Rattle.oas_layout.specs.Contents.{meaning_of};
+ghost use Rattle.oas_elements.specs.Contents.{meaning_of};
 ghost use Rattle.oas_info.specs.Facts.{AreFacts};
 
 use crate::counting::totals_of;
 use crate::group::Group;
 use crate::names::unmatched_names;
 use oas_num::{Fraction, Name};
-use oas_run_form::oas_runs::CompactLayout;
+use oas_writing::Layout;
 use std::alloc::{AllocError, Global};
 use std::collections::BTreeMap;
 
@@ -33,7 +33,7 @@ pub struct Facts {
 
 /// The facts of a layout. It goes over the distinct elements once and over the placements again, and allocates for groups
 /// and names.
-pub fn facts_of(alloc: Global, layout: &CompactLayout) -> Result<Facts, AllocError>
+pub fn facts_of(alloc: Global, layout: &Layout) -> Result<Facts, AllocError>
     ensures { IfOk result (λ facts. AreFacts (meaning_of layout.now) facts) }
 {
     let totals = totals_of(alloc, layout)?;

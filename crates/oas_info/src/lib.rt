@@ -13,7 +13,7 @@
 //! size N
 //! ```
 //!
-//! What this crate promises to the crates above it, of a layout that is held as runs of keys:
+//! What this crate promises to the crates above it:
 //!
 //! - [`facts_of`] returns the facts of the layout (`AreFacts`, specs/Facts.antt): its unit, the numbers of cells and elements,
 //!   the weight; each group (a kind or a layer) that an element is in, ascending, with the number of its elements
@@ -28,7 +28,7 @@
 //!
 //! # How it is built
 //!
-//! oas_info uses oas_runs and oas_run_form, `itoa` and `serde_json`.
+//! oas_info stands on oas_layout and oas_writing, and uses `itoa` and `serde_json`.
 //!
 //! - specs/Groups.antt: a group is a kind or a layer; which groups an element is in; how many elements are in a group, as a
 //!   sum over cells. src/counting.rt goes over the distinct elements once. Of each it reads from the key what it is counted
@@ -64,5 +64,4 @@ pub use form::{Form, text_in};
 pub use group::Group;
 pub use info::{Info, info_of};
 pub use json::json_of;
-pub use oas_run_form;
 pub use text::text_of;

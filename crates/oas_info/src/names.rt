@@ -2,12 +2,12 @@
 
 ghost use Rattle.std.specs.Prelude.{◌≡◌, ◌&&◌, ◌<◌, true, not, None, Some, length, MatchOption, OnOk, IfOk};
 ghost use Rattle.oas_num.specs.Texts.{IsName};
-ghost use Rattle.oas_layout.specs.Bag.{items, IsTally};
-ghost use Rattle.oas_layout.specs.Contents.{meaning_of};
+ghost use Rattle.oas_elements.specs.Bag.{items, IsTally};
+ghost use Rattle.oas_elements.specs.Contents.{meaning_of};
 ghost use Rattle.oas_info.specs.Names.{has_name, is_named, placed_by, is_placed_in, is_placed, is_defined, is_undefined, is_unplaced, Adds, HasNames, AreNames};
 
 use oas_num::Name;
-use oas_run_form::oas_runs::{CompactLayout, KeyedElement, KeyedElements, ShownElement, show};
+use oas_writing::{Elements, KeyedElement, Layout, ShownElement, show};
 use std::alloc::{AllocError, Global};
 use std::collections::BTreeSet;
 
@@ -51,7 +51,7 @@ fn placed<'a>(element: &KeyedElement<'a>) -> Option<&'a [u8]>
 fn add_placed(
     alloc: Global,
     names: &mut BTreeSet<Name>,
-    elements: KeyedElements<'_>,
+    elements: Elements<'_>,
 ) -> Result<(), AllocError>
     requires { IsTally elements }
     ensures { OnOk result (Adds (is_placed_in (items elements.entry)) names.old.keys names.new.keys) }
@@ -68,7 +68,7 @@ fn add_placed(
 }
 
 /// The names that the elements of a layout place.
-fn placed_names(alloc: Global, layout: &CompactLayout) -> Result<BTreeSet<Name>, AllocError>
+fn placed_names(alloc: Global, layout: &Layout) -> Result<BTreeSet<Name>, AllocError>
     ensures { IfOk result (λ names. HasNames (is_placed (meaning_of layout.now)) names.keys) }
 {
     let mut names = BTreeSet::new(alloc);
@@ -79,7 +79,7 @@ fn placed_names(alloc: Global, layout: &CompactLayout) -> Result<BTreeSet<Name>,
 }
 
 /// The names of a layout's cells.
-fn defined_names(alloc: Global, layout: &CompactLayout) -> Result<BTreeSet<Name>, AllocError>
+fn defined_names(alloc: Global, layout: &Layout) -> Result<BTreeSet<Name>, AllocError>
     ensures { IfOk result (λ names. HasNames (is_defined (meaning_of layout.now)) names.keys) }
 {
     let mut names = BTreeSet::new(alloc);
@@ -115,10 +115,7 @@ pub(crate) struct Unmatched {
 
 /// The names that are placed and not defined, and those that are defined and not placed. It goes over the distinct
 /// placements once, and allocates for the names.
-pub(crate) fn unmatched_names(
-    alloc: Global,
-    layout: &CompactLayout,
-) -> Result<Unmatched, AllocError>
+pub(crate) fn unmatched_names(alloc: Global, layout: &Layout) -> Result<Unmatched, AllocError>
     ensures undefined { IfOk result (λ names. AreNames (is_undefined (meaning_of layout.now)) names.undefined.items) }
     ensures unplaced { IfOk result (λ names. AreNames (is_unplaced (meaning_of layout.now)) names.unplaced.items) }
 {

@@ -15,14 +15,14 @@ use Rattle.oas_record.specs.declared.paths.Extension.TheVariants.{Explicit, Moda
 use Rattle.oas_record.specs.declared.paths.Extensions.{Extensions}
 use Rattle.oas_peek.specs.declared.figures.PeekedFigure.{PeekedFigure}
 use Rattle.oas_peek.specs.Figures.{IsFigure, IsPeekedFigure}
-use Rattle.oas_layout.specs.declared.element.Element.{Element}
-use Rattle.oas_layout.specs.declared.element.Element.TheVariants.{Polygon, Path}
-use Rattle.oas_runs.specs.oas_drawing.declared.drawn.Drawn.TheVariants.{Named}
-use Rattle.oas_runs.specs.oas_drawing.Drawing.{polygon_at, path_at}
-use Rattle.oas_runs.specs.oas_form.Bytes.{element_bytes}
-use Rattle.oas_runs.specs.oas_form.Records.{element_record, line_of, first_of, steps_from}
-use Rattle.oas_runs.specs.oas_form.declared.judging.FormJudge.{FormJudge}
-use Rattle.oas_runs.specs.oas_form.Judging.{GoesOnDrawing}
+use Rattle.oas_elements.specs.declared.element.Element.{Element}
+use Rattle.oas_elements.specs.declared.element.Element.TheVariants.{Polygon, Path}
+use Rattle.oas_writing.specs.Drawn.TheVariants.{Named}
+use Rattle.oas_writing.specs.Drawing.{polygon_at, path_at}
+use Rattle.oas_writing.specs.Bytes.{element_bytes}
+use Rattle.oas_writing.specs.Records.{element_record, line_of, first_of, steps_from}
+use Rattle.oas_writing.specs.FormJudge.{FormJudge}
+use Rattle.oas_writing.specs.Judging.{GoesOnDrawing}
 use Rattle.oas_judge.specs.Peeked.{IsFigureBy}
 use Rattle.oas_judge.specs.FileJudges.{holds, GoesOnPeeked}
 use Rattle.oas_judge.specs.Own.{point_if, drawn_there, number_given, start_given, end_given, own_drawn}

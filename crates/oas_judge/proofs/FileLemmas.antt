@@ -1,5 +1,5 @@
 -- A whole file: it is accepted, and the judge says whether it is a canonical form.
-use Rattle.std.proofs.Common.{◌≡◌, ◌↔◌, ℕ, Bool, true, false, IsTrue, List, [], ◌++◌, None, refl, sym, ap, subst, ◌∙◌, append_assoc}
+use Rattle.std.proofs.Common.{◌≡◌, ◌↔◌, ℕ, Bool, true, false, IsTrue, List, [], ◌++◌, None, Result, Ok, Err, IfOk, OnOk, refl, sym, ap, subst, ◌∙◌, append_assoc}
 use Rattle.std.specs.Prelude.{◌&&◌}
 use Rattle.std.proofs.lemmas.List.{append-nil}
 use Rattle.oas_num.specs.declared.refusals.Refusal.{Refusal}
@@ -7,27 +7,21 @@ use Rattle.oas_num.specs.Ratio.{Ratio}
 use Rattle.oas_num.specs.Script.{Script, Consumed, IsAtEnd}
 use Rattle.oas_num.proofs.ReadLemmas.{Consumed-then}
 use Rattle.oas_record.specs.declared.heads.Head.{Head}
-use Rattle.oas_layout.specs.declared.limits.Limits.{Limits}
-use Rattle.oas_layout.specs.declared.profile.Profile.{Profile}
-use Rattle.oas_layout.specs.Contents.{Cell, Contents, meaning_of, IsLayout}
-use Rattle.oas_layout.specs.Meaning.{Meaning}
-use Rattle.oas_layout.proofs.LawProofs.{symmetric}
-use Rattle.oas_runs.specs.oas_modal.Stores.{Store}
-use Rattle.oas_runs.specs.oas_modal.Stands.{ReaderState, Represents, records_mean, end_refusal}
-use Rattle.oas_runs.specs.oas_file.Acceptance.{Allowed, Accepted}
-use Rattle.oas_runs.specs.oas_file.Files.{FileOf}
-use Rattle.oas_runs.specs.oas_file.Gathering.{HasAll}
-use Rattle.oas_runs.proofs.oas_file_proofs.Ending.{file_all}
-use Rattle.oas_runs.specs.oas_form.Bytes.{end_bytes}
-use Rattle.oas_runs.specs.oas_form.Canonical.{CanonicalForm}
-use Rattle.oas_runs.specs.oas_form.Judging.{entry_records, entry_bytes, IsReadAs}
-use Rattle.oas_runs.proofs.oas_form_proofs.DrawnSound.{IsSoundMeaning, records_sound}
-use Rattle.oas_runs.proofs.oas_form_proofs.JudgeBytes.{bytes_judge}
-use Rattle.oas_runs.specs.declared.runs.CellRuns.{CellRuns}
-use Rattle.oas_runs.specs.Keyed.{keyed_cells}
-use Rattle.oas_runs.specs.Held.{AreSoundCells, HeldCells, cells_held, contents_of}
-use Rattle.oas_runs.specs.Counting.{AreSound, IsInOrder}
-use Rattle.oas_runs.proofs.OrderLemmas.{layout_of, is_layout, same_layout, is_held, made_of, can_be_made}
+use Rattle.oas_elements.specs.declared.limits.Limits.{Limits}
+use Rattle.oas_elements.specs.declared.profile.Profile.{Profile}
+use Rattle.oas_elements.specs.Contents.{Contents, meaning_of}
+use Rattle.oas_elements.specs.Meaning.{SameLayout}
+use Rattle.oas_writing.specs.Stores.{Store}
+use Rattle.oas_writing.specs.Stands.{ReaderState, Represents, records_mean, end_refusal}
+use Rattle.oas_writing.specs.Acceptance.{Allowed, Accepted}
+use Rattle.oas_writing.specs.Files.{FileOf}
+use Rattle.oas_writing.specs.Gathering.{HasAll}
+use Rattle.oas_writing.proofs.Ending.{file_all}
+use Rattle.oas_writing.specs.Bytes.{end_bytes}
+use Rattle.oas_writing.specs.Canonical.{CanonicalForm}
+use Rattle.oas_writing.specs.Judging.{entry_records, entry_bytes, IsReadAs}
+use Rattle.oas_writing.proofs.JudgeBytes.{bytes_judge}
+use Rattle.oas_writing.specs.LayoutOf.{IsLayoutOf}
 use Rattle.oas_judge.specs.declared.judge.FileJudge.{FileJudge}
 use Rattle.oas_judge.specs.FileJudges.{holds, BeginsJudging}
 use Rattle.oas_judge.specs.Judged.{HasBegun, HasSeenAll, IsJudged, IsReadAndJudged}
@@ -39,7 +33,7 @@ hold_both true true h t = refl
 hold_both true false h t = cc
 hold_both false b h t = cc
 
-both_hold : (a b : Bool) → IsTrue (a && b) → IsTrue a × IsTrue b
+pub both_hold : (a b : Bool) → IsTrue (a && b) → IsTrue a × IsTrue b
 both_hold true b h = (refl, h)
 both_hold false b h = absurd cc
 
@@ -48,13 +42,18 @@ abbrev pub has_begun : {C : Type 0} {t : Store C} {profile : Profile} {old now :
     Represents t first [] → HasBegun t profile head now first j
 has_begun {old = old} begun stands = record { origin = old; begun = begun; stands = stands }
 
+-- a layout that was finished, where END refuses nothing
+pub finished : {T E : Type 0} {none : Type 0} {P Q : T → Type 0} (answer : Result T E) → ((l : T) → none → P l → Q l) → OnOk answer none → IfOk answer P → IfOk answer Q
+finished (Ok l) makes accepted is = makes l accepted is
+finished (Err e) makes accepted is = tt
+
 -- limits that are the reader's
 pub kept_within : {limits reader : Limits} {old new : Script} {refusal : Refusal} → reader ≡ limits → RefusesKept reader old refusal new → RefusesKept limits old refusal new
 kept_within {old = old} {new = new} {refusal = refusal} same r = subst (λ (l : Limits). RefusesKept l old refusal new) same r
 
 -- nothing follows END
-pub seen_to_end : {C : Type 0} {t : Store C} {profile : Profile} {head : Head} {start : List ℕ} {origin mid new : Script} {first s : ReaderState C} {k : FileJudge} {at : ℕ} →
-    HasSeenAll t profile head start origin first at mid s k → Consumed mid [] new → HasSeenAll t profile head start origin first at new s k
+pub seen_to_end : {C : Type 0} {t : Store C} {profile : Profile} {head : Head} {start : List ℕ} {origin mid new : Script} {first s : ReaderState C} {k : FileJudge} {known : List ℕ} {at : ℕ} →
+    HasSeenAll t profile head start origin first at mid s k known → Consumed mid [] new → HasSeenAll t profile head start origin first at new s k known
 seen_to_end {start = start} {origin = origin} {mid = mid} {new = new} m takes = record {
   entries = m.entries;
   last = m.last;
@@ -68,8 +67,8 @@ seen_to_end {start = start} {origin = origin} {mid = mid} {new = new} m takes = 
   tied = m.tied;
 }
 
-module _ {C : Type 0} {t : Store C} {profile : Profile} {head : Head} {now mid : Script} {first s : ReaderState C} {j k : FileJudge} {at : ℕ} (b : HasBegun t profile head now first j)
-    (m : HasSeenAll t profile head b.begun.start b.origin first at mid s k) where
+module _ {C : Type 0} {t : Store C} {profile : Profile} {head : Head} {now mid : Script} {first s : ReaderState C} {j k : FileJudge} {known : List ℕ} {at : ℕ} (b : HasBegun t profile head now first j)
+    (m : HasSeenAll t profile head b.begun.start b.origin first at mid s k known) where
   -- as a reader has it
   abbrev pub all_seen : HasAll t b.origin head first at mid s
   all_seen = record {
@@ -100,7 +99,7 @@ module _ {C : Type 0} {t : Store C} {profile : Profile} {head : Head} {now mid :
     read_as = record { begun = b.begun.spelled; each = m.each; ended = m.end; joined = append_assoc b.begun.start (entry_bytes m.entries) m.last }
 
     -- what the judge says is whether it is a canonical form
-    told : (answer : Bool) → IsTrue answer ↔ (IsTrue (holds k) × (end_bytes ≡ k.bytes.items)) → IsTrue answer ↔ CanonicalForm limits profile ((b.begun.start ++ entry_bytes m.entries) ++ m.last)
+    told : (answer : Bool) → IsTrue answer ↔ (IsTrue (holds k) × (end_bytes ≡ known)) → IsTrue answer ↔ CanonicalForm limits profile ((b.begun.start ++ entry_bytes m.entries) ++ m.last)
     told answer says =
         let right = bytes_judge limits profile ((b.begun.start ++ entry_bytes m.entries) ++ m.last) head b.begun.start m.entries m.last accepted read_as in (
           λ is.
@@ -126,45 +125,25 @@ module _ {C : Type 0} {t : Store C} {profile : Profile} {head : Head} {now mid :
       all_taken = subst (λ (bytes : List ℕ). Consumed b.origin bytes new) (append-nil ((b.begun.start ++ entry_bytes m.entries) ++ m.last))
           (Consumed-then b.origin mid new ((b.begun.start ++ entry_bytes m.entries) ++ m.last) [] m.takes takes)
 
-      pub judged : (answer : Bool) → IsTrue answer ↔ (IsTrue (holds k) × (end_bytes ≡ k.bytes.items)) → IsJudged limits profile b.origin answer new
+      pub judged : (answer : Bool) → IsTrue answer ↔ (IsTrue (holds k) × (end_bytes ≡ known)) → IsJudged limits profile b.origin answer new
       judged answer says = record { bytes = (b.begun.start ++ entry_bytes m.entries) ++ m.last; takes = all_taken; ended = ended; accepted = accepted; answer = told answer says }
 
-    -- and its layout: the runs of its cells are made one by a profile
-    module _ {kept_by q : Profile} (c : CellRuns) (unit : first.unit ≡ head.unit)
-        (order : AreSound (records_mean s.unit (entry_records m.entries)).cells → IsInOrder kept_by c (records_mean s.unit (entry_records m.entries))) (by : q ≡ kept_by) where
-      abbrev meant : Meaning
-      meant = records_mean head.unit (entry_records m.entries)
-
-      sound : IsSoundMeaning limits meant
-      sound = records_sound limits ((b.begun.start ++ entry_bytes m.entries) ++ m.last) accepted
-
-      ordered : IsInOrder kept_by c meant
-      ordered = subst (λ (u : Ratio). AreSound (records_mean u (entry_records m.entries)).cells → IsInOrder kept_by c (records_mean u (entry_records m.entries))) (m.taken.same.unit ∙ unit) order sound.spellable.sound
-
-      pub held : HeldCells c.cells.entries
-      held = is_held kept_by meant c sound.spellable.sound ordered
-
-      pub layout : (h : HeldCells c.cells.entries) → IsLayout (contents_of c.unit limits q (cells_held h))
-      layout h = subst (λ (p : Profile). IsLayout (contents_of c.unit limits p (cells_held h))) (sym by) (can_be_made kept_by limits meant c sound ordered h)
-
-      pub read_judged : {new : Script} → Consumed mid [] new → IsAtEnd new → (l : Contents)
-          → ((cs : List Cell) → AreSoundCells cs → c.cells.entries ≡ keyed_cells cs → l ≡ contents_of c.unit limits q cs)
-          → (answer : Bool) → IsTrue answer ↔ (IsTrue (holds k) × (end_bytes ≡ k.bytes.items)) → IsReadAndJudged limits profile kept_by b.origin l answer new
-      read_judged {new = new} takes ended l made answer says =
-          let is : l ≡ layout_of kept_by limits meant =
-          made_of kept_by limits meant c l sound ordered (λ cs t e. made cs t e ∙ ap (λ (p : Profile). contents_of c.unit limits p cs) by) in
-          subst (λ (l : Contents). IsReadAndJudged limits profile kept_by b.origin l answer new) (sym is) (record {
-            read = record {
-              bytes = (b.begun.start ++ entry_bytes m.entries) ++ m.last;
-              takes = all_taken takes ended;
-              ended = ended;
-              accepted = accepted;
-              meaning = meant;
-              means = record { head = head; records = entry_records m.entries; file = file; is = refl };
-              same = symmetric kept_by (meaning_of (layout_of kept_by limits meant)) meant (same_layout kept_by limits meant);
-              layout = is_layout kept_by limits meant sound;
-              within = refl;
-              by = refl;
-            };
-            answer = told answer says;
-          })
+    -- and its layout
+    pub read_judged : {kept_by : Profile} {new : Script} → first.unit ≡ head.unit → Consumed mid [] new → IsAtEnd new → (l : Contents)
+        → IsLayoutOf kept_by s.limits (records_mean s.unit (entry_records m.entries)) l
+        → (answer : Bool) → IsTrue answer ↔ (IsTrue (holds k) × (end_bytes ≡ known)) → IsReadAndJudged limits profile kept_by b.origin l answer new
+    read_judged {kept_by = kept_by} unit takes ended l is answer says = record {
+      read = record {
+        bytes = (b.begun.start ++ entry_bytes m.entries) ++ m.last;
+        takes = all_taken takes ended;
+        ended = ended;
+        accepted = accepted;
+        meaning = records_mean head.unit (entry_records m.entries);
+        means = record { head = head; records = entry_records m.entries; file = file; is = refl };
+        same = subst (λ (u : Ratio). SameLayout kept_by (records_mean u (entry_records m.entries)) (meaning_of l)) (m.taken.same.unit ∙ unit) is.same;
+        layout = is.layout;
+        within = is.within ∙ m.taken.same.limits ∙ within;
+        by = is.by;
+      };
+      answer = told answer says;
+    }

@@ -15,23 +15,23 @@ use Rattle.oas_peek.specs.declared.named.PeekedNamed.{PeekedNamed}
 use Rattle.oas_peek.specs.declared.named.NamedOnce.{NamedOnce}
 use Rattle.oas_peek.specs.declared.named.NamedOnce.TheVariants as once
 use Rattle.oas_peek.specs.Named.{IsPeekedNamed, named_record}
-use Rattle.oas_layout.specs.declared.element.Element.{Element}
-use Rattle.oas_layout.specs.declared.element.Element.TheVariants.{Placement, Text, Rectangle}
-use Rattle.oas_layout.specs.Same.{normal}
-use Rattle.oas_layout.specs.Sound.{IsSound, Fits}
-use Rattle.oas_runs.specs.oas_form.Bytes.{element_bytes}
-use Rattle.oas_runs.specs.oas_form.Records.{element_record}
-use Rattle.oas_runs.proofs.oas_form_proofs.JudgeRecords.{element_is_bytes}
+use Rattle.oas_elements.specs.declared.element.Element.{Element}
+use Rattle.oas_elements.specs.declared.element.Element.TheVariants.{Placement, Text, Rectangle}
+use Rattle.oas_elements.specs.Same.{normal}
+use Rattle.oas_elements.specs.Sound.{IsSound, Fits}
+use Rattle.oas_writing.specs.Bytes.{element_bytes}
+use Rattle.oas_writing.specs.Records.{element_record}
+use Rattle.oas_writing.proofs.JudgeRecords.{element_is_bytes}
 use Rattle.oas_judge.specs.Peeked.{IsSpelledBy, IsNamedBy}
 use Rattle.oas_judge.specs.Candidates.{IsDrawable}
-use Rattle.oas_layout.specs.declared.limits.Limits.{Limits}
-use Rattle.oas_layout.specs.declared.profile.Profile.{Profile}
-use Rattle.oas_runs.specs.oas_drawing.declared.drawn.Drawn.TheVariants.{Named}
-use Rattle.oas_runs.specs.oas_drawing.Drawing.{elements_at}
-use Rattle.oas_runs.specs.oas_file.Gathering.{inner_in}
-use Rattle.oas_runs.specs.oas_form.declared.judging.FormJudge.{FormJudge}
-use Rattle.oas_runs.specs.oas_form.Judging.{Entry, entry_records, AllMatch, AreRead, Stands, GoesOn as FormGoesOn, GoesOnDrawing, GoesOnRefusing}
-use Rattle.oas_runs.proofs.oas_form_proofs.JudgeBytes.{bytes_go_on}
+use Rattle.oas_elements.specs.declared.limits.Limits.{Limits}
+use Rattle.oas_elements.specs.declared.profile.Profile.{Profile}
+use Rattle.oas_writing.specs.Drawn.TheVariants.{Named}
+use Rattle.oas_writing.specs.Drawing.{elements_at}
+use Rattle.oas_writing.specs.Gathering.{inner_in}
+use Rattle.oas_writing.specs.FormJudge.{FormJudge}
+use Rattle.oas_writing.specs.Judging.{Entry, entry_records, AllMatch, AreRead, Stands, GoesOn as FormGoesOn, GoesOnDrawing, GoesOnRefusing}
+use Rattle.oas_writing.proofs.JudgeBytes.{bytes_go_on}
 use Rattle.oas_judge.specs.declared.candidates.Candidate.{Candidate}
 use Rattle.oas_judge.specs.declared.candidates.Candidate.TheVariants as candidates
 use Rattle.oas_judge.specs.declared.judge.FileJudge.{FileJudge}

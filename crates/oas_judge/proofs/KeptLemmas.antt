@@ -14,11 +14,11 @@ use Rattle.oas_record.specs.declared.records.Record.{Record}
 use Rattle.oas_record.specs.Heads.{magic, ReadsHead}
 use Rattle.oas_record.specs.Records.{record_in}
 use Rattle.oas_record.specs.Refusals.{RecordTook}
-use Rattle.oas_layout.specs.declared.limits.Limits.{Limits}
-use Rattle.oas_runs.specs.oas_file.Deciding.{OutOfMemoryAt, ForFirst, ForStart, HasNoMemory}
-use Rattle.oas_runs.specs.oas_file.Gathering.{ConsumesNext}
-use Rattle.oas_runs.specs.oas_file.Reading.{Refuses}
-use Rattle.oas_runs.proofs.oas_file_proofs.Refusing.{head_refuses, ForMemory, judged_refused, memory_placed}
+use Rattle.oas_elements.specs.declared.limits.Limits.{Limits}
+use Rattle.oas_writing.specs.Deciding.{OutOfMemoryAt, ForFirst, ForStart, HasNoMemory}
+use Rattle.oas_writing.specs.Gathering.{ConsumesNext}
+use Rattle.oas_writing.specs.Reading.{Refuses}
+use Rattle.oas_writing.proofs.Refusing.{head_refuses, ForMemory, judged_refused, memory_placed}
 use Rattle.oas_judge.specs.declared.keeping.Ending.{Ending}
 use Rattle.oas_judge.specs.declared.keeping.Ending.TheVariants as endings
 use Rattle.oas_judge.specs.Keeping.{EndsSo, IsKeeping, reason_by}

@@ -1,3 +1,8 @@
+pub use Rattle.oas_writing.proofs.Forms
+pub use Rattle.oas_writing.proofs.Held
+pub use Rattle.oas_writing.proofs.Judged
+pub use Rattle.oas_writing.proofs.Rekeying
+pub use Rattle.oas_writing.proofs.Written
 pub mod OwnLemmas
 mod KeptLemmas
 mod SpelledLemmas
@@ -7,6 +12,6 @@ mod RecordSteps
 mod FileLemmas
 pub mod NamedSteps
 mod FigureSteps
-pub use Rattle.oas_runs.proofs.oas_file_proofs
-pub use Rattle.oas_runs.proofs.oas_form_proofs
-pub use Rattle.oas_runs.proofs as oas_runs_proofs
+mod JoinedLemmas
+mod PartSteps
+mod GivenLemmas

@@ -4,12 +4,12 @@ use Rattle.std.specs.Borrow.{Bor}
 use Rattle.std.specs.Prelude.{◌&&◌}
 use Rattle.oas_num.specs.Texts.{IsName, IsLabel}
 use Rattle.oas_record.specs.declared.placements.Turn.TheVariants.{Quarters}
-use Rattle.oas_layout.specs.declared.element.Element.TheVariants.{Placement, Text}
-use Rattle.oas_layout.specs.declared.element.Turns.{Turns}
-use Rattle.oas_layout.specs.declared.element.Turns.TheVariants.{T0, T1, T2, T3}
-use Rattle.oas_layout.specs.Element.{turn_count}
-use Rattle.oas_layout.specs.Grid.{is_coordinate}
-use Rattle.oas_runs.specs.oas_drawing.Turns.{turned}
+use Rattle.oas_elements.specs.declared.element.Element.TheVariants.{Placement, Text}
+use Rattle.oas_elements.specs.declared.element.Turns.{Turns}
+use Rattle.oas_elements.specs.declared.element.Turns.TheVariants.{T0, T1, T2, T3}
+use Rattle.oas_elements.specs.Element.{turn_count}
+use Rattle.oas_elements.specs.Grid.{is_coordinate}
+use Rattle.oas_writing.specs.Turns.{turned}
 use Rattle.oas_peek.specs.declared.named.Given.TheVariants.{Bytes}
 use Rattle.oas_peek.specs.declared.named.NamedOnce.{NamedOnce}
 use Rattle.oas_peek.specs.declared.named.NamedOnce.TheVariants as once

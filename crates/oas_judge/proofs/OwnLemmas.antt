@@ -21,18 +21,18 @@ use Rattle.oas_record.specs.declared.paths.Extension.TheVariants as extension
 use Rattle.oas_record.specs.declared.paths.Extensions.{Extensions}
 use Rattle.oas_record.specs.declared.records.Record.{Record}
 use Rattle.oas_record.specs.declared.records.Record.TheVariants as record_of
-use Rattle.oas_layout.specs.declared.element.Element.{Element}
-use Rattle.oas_layout.specs.declared.element.Element.TheVariants.{Placement}
-use Rattle.oas_runs.specs.oas_drawing.declared.positions.Position.{Position}
-use Rattle.oas_runs.specs.oas_drawing.declared.drawn.Drawn.{Drawn}
-use Rattle.oas_runs.specs.oas_drawing.Turns.{turned}
-use Rattle.oas_runs.specs.oas_drawing.Values.{is_relative, extension_number, start_number, end_number}
-use Rattle.oas_runs.specs.oas_drawing.Modal.{ModalState, modal_of, moved_by, stepped}
-use Rattle.oas_runs.specs.oas_drawing.Drawing.{point_from, drawn_at, repeats, placement_at, text_at, rectangle_at, polygon_at, path_at, circle_at, offsets_if, offsets_of, copies_at, elements_at}
-use Rattle.oas_layout.specs.Grid.{is_grid_point}
-use Rattle.oas_runs.proofs.oas_drawing_proofs.Grids.{vertices_fault}
-use Rattle.oas_runs.proofs.oas_drawing_proofs.Steps.{modal_step}
-use Rattle.oas_runs.specs.oas_form.Records.{element_record}
+use Rattle.oas_elements.specs.declared.element.Element.{Element}
+use Rattle.oas_elements.specs.declared.element.Element.TheVariants.{Placement}
+use Rattle.oas_writing.specs.Position.{Position}
+use Rattle.oas_writing.specs.Drawn.{Drawn}
+use Rattle.oas_writing.specs.Turns.{turned}
+use Rattle.oas_writing.specs.Values.{is_relative, extension_number, start_number, end_number}
+use Rattle.oas_writing.specs.Modal.{ModalState, modal_of, moved_by, stepped}
+use Rattle.oas_writing.specs.Drawing.{point_from, drawn_at, repeats, placement_at, text_at, rectangle_at, polygon_at, path_at, circle_at, offsets_if, offsets_of, copies_at, elements_at}
+use Rattle.oas_elements.specs.Grid.{is_grid_point}
+use Rattle.oas_writing.proofs.Grids.{vertices_fault}
+use Rattle.oas_writing.proofs.Steps.{modal_step}
+use Rattle.oas_writing.specs.Records.{element_record}
 use Rattle.oas_judge.specs.Own.{is_memory, own_drawn, point_if, point_given, drawn_there, placement_if, turn_given, rectangle_if, number_given, start_given, end_given}
 
 plus_zero : (x : ℤ) → x +ℤ pos 0 ≡ x

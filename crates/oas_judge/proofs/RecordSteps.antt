@@ -13,26 +13,26 @@ use Rattle.oas_num.proofs.ReadLemmas.{Consumed-then}
 use Rattle.oas_record.specs.declared.heads.Head.{Head}
 use Rattle.oas_record.specs.declared.records.Record.{Record}
 use Rattle.oas_record.specs.Heads.{head_in}
-use Rattle.oas_layout.specs.declared.limits.Limits.{Limits}
-use Rattle.oas_layout.specs.declared.profile.Profile.{Profile}
-use Rattle.oas_runs.specs.oas_modal.Standing.{MayRunOut}
-use Rattle.oas_runs.specs.oas_modal.Stores.{Store}
-use Rattle.oas_runs.specs.oas_modal.Stands.{ReaderState, Represents, refusal as refusal_of}
-use Rattle.oas_runs.specs.oas_file.Deciding.{ForNext}
-use Rattle.oas_runs.specs.oas_file.Files.{PrefixOf}
-use Rattle.oas_runs.specs.oas_file.Gathering.{inner_in, HasGathered, HasTaken}
-use Rattle.oas_runs.specs.oas_file.Reading.{Refuses}
-use Rattle.oas_runs.proofs.oas_file_proofs.Fronts.{allowed_more}
-use Rattle.oas_runs.proofs.oas_file_proofs.SomePlaces.{record_long}
-use Rattle.oas_runs.proofs.oas_file_proofs.Taking.{gather_fails, gather_refuses}
+use Rattle.oas_elements.specs.declared.limits.Limits.{Limits}
+use Rattle.oas_elements.specs.declared.profile.Profile.{Profile}
+use Rattle.oas_writing.specs.Standing.{MayRunOut}
+use Rattle.oas_writing.specs.Stores.{Store}
+use Rattle.oas_writing.specs.Stands.{ReaderState, Represents, refusal as refusal_of}
+use Rattle.oas_writing.specs.Deciding.{ForNext}
+use Rattle.oas_writing.specs.Files.{PrefixOf}
+use Rattle.oas_writing.specs.Gathering.{inner_in, HasGathered, HasTaken}
+use Rattle.oas_writing.specs.Reading.{Refuses}
+use Rattle.oas_writing.proofs.Fronts.{allowed_more}
+use Rattle.oas_writing.proofs.SomePlaces.{record_long}
+use Rattle.oas_writing.proofs.Taking.{gather_fails, gather_refuses}
 use Rattle.oas_record.specs.Records.{record_in, IsInner}
-use Rattle.oas_runs.specs.oas_form.Judging.{Entry, entry_records, entry_bytes}
-use Rattle.oas_runs.proofs.oas_form_proofs.JudgeRecords.{all_more}
+use Rattle.oas_writing.specs.Judging.{Entry, entry_records, entry_bytes}
+use Rattle.oas_writing.proofs.JudgeRecords.{all_more}
 use Rattle.oas_judge.specs.declared.candidates.Candidate.{Candidate}
 use Rattle.oas_judge.specs.declared.judge.FileJudge.{FileJudge}
 use Rattle.oas_judge.specs.Candidates.{IsCandidate}
 use Rattle.oas_judge.specs.FileJudges.{holds, IsJudging, GoesOn, GoesOnBy, GoesOnPeeked}
-use Rattle.oas_judge.specs.Judged.{HasBegun, HasSeen, HasSeenAll, SeesMore, SeesRefused, SeesEnd}
+use Rattle.oas_judge.specs.Judged.{HasBegun, HasSeen, HasSeenAll, SeesMore, SeesRefused, SeesRefusedSo, SeesEnd}
 use Rattle.oas_judge.specs.Kept.{RefusesKept, RefusesNext}
 use Rattle.oas_judge.specs.Spelled.{NextTaken}
 use Rattle.oas_judge.proofs.KeptLemmas.{wants_memory}
@@ -77,7 +77,7 @@ module _ {C : Type 0} {t : Store C} {profile : Profile} {head : Head} {now : Scr
   }
 
   module _ {mid : Script} {s : ReaderState C} {k : FileJudge} (m : HasSeen t profile head b.begun.start b.origin first mid s k) where
-    abbrev gathered : HasGathered t b.origin head first mid s
+    abbrev pub gathered : HasGathered t b.origin head first mid s
     gathered = record {
       records = entry_records m.entries;
       bytes = b.begun.start ++ entry_bytes m.entries;
@@ -113,7 +113,7 @@ module _ {C : Type 0} {t : Store C} {profile : Profile} {head : Head} {now : Scr
       judging_so = subst (λ (j : FileJudge). IsJudging profile j head b.begun.start m.entries) (sym same) (record { by = m.judging.by; begins = m.judging.begins; stands = m.judging.stands })
 
       -- END was taken
-      pub seen_all : {new : Script} (at : ℕ) → at ≡ mid.given → NextTaken (holds k) head.flag_in_end mid None l.bytes.items new → HasSeenAll t profile head b.begun.start b.origin first at new s l
+      pub seen_all : {new : Script} {known : List ℕ} (at : ℕ) → at ≡ mid.given → NextTaken (holds k) head.flag_in_end mid None known new → HasSeenAll t profile head b.begun.start b.origin first at new s l known
       seen_all {new = new} at is next = record {
         entries = m.entries;
         last = next.bytes;
@@ -141,8 +141,12 @@ module _ {C : Type 0} {t : Store C} {profile : Profile} {head : Head} {now : Scr
         -- it is refused
         pub take_refused : (at : ℕ) (refusal : Refusal) → at ≡ mid.given →
             (refusal.at ≡ at) × (((refusal.why ≡ Memory) × MayRunOut (refusal_of s.limits (entry_records m.entries) r)) ⊎ (refusal_of s.limits (entry_records m.entries) r ≡ Some refusal.why)) →
-            RefusesKept first.limits b.origin refusal new
-        take_refused at refusal is e = as_kept (gather_refuses gathered read at refusal is e)
+            Refuses first.limits b.origin refusal new
+        take_refused at refusal is e = gather_refuses gathered read at refusal is e
+
+        -- or memory runs out for it, where it isn't refused
+        take_wants : refusal_of s.limits (entry_records m.entries) r ≡ None → Refuses first.limits b.origin (record { at = mid.given; why = Memory }) new
+        take_wants none = gather_refuses gathered read mid.given (record { at = mid.given; why = Memory }) refl (refl, inl (refl, inl none))
 
         -- it is taken and judged
         module _ (after : ReaderState C) (judged : FileJudge) (candidate : Candidate)
@@ -190,7 +194,7 @@ module _ {mid new : Script} {known : List ℕ} {r : Record} (inner : IsInner r) 
     -- it is refused
     pub peeked_refused : (at : ℕ) (refusal : Refusal) → at ≡ mid.given
         → ((rs : List Record) → Represents t s rs → (refusal.at ≡ at) × (((refusal.why ≡ Memory) × MayRunOut (refusal_of s.limits rs r)) ⊎ (refusal_of s.limits rs r ≡ Some refusal.why)))
-        → SeesRefused t head mid s k refusal new
+        → SeesRefusedSo t head mid s k refusal new
     peeked_refused at refusal place refused profile now first judge b m =
         take_refused b m {l = k} refl (peek_next (holds k) head.flag_in_end) at refusal place (refused _ m.taken.stands)
 
@@ -199,7 +203,9 @@ module _ {mid new : Script} {known : List ℕ} {r : Record} (inner : IsInner r) 
         → ((rs : List Record) → Represents t s rs → (refusal_of s.limits rs r ≡ None) × Represents t after (rs ++ r ∷ []))
         → after.unit ≡ s.unit → after.limits ≡ s.limits → after.profile ≡ s.profile → GoesOnPeeked known k r judged → SeesMore t head mid s k new after judged
     peeked_seen {after} {judged} taken unit limits by g profile now first judge b m =
-        seen_more b m {l = k} refl (peek_next (holds k) head.flag_in_end) after judged g.candidate (taken _ m.taken.stands) unit limits by g.says g.goes_on
+        let next = peek_next (holds k) head.flag_in_end in
+        let accepted = taken _ m.taken.stands in
+        (seen_more b m {l = k} refl next after judged g.candidate accepted unit limits by g.says g.goes_on, take_wants b m {l = k} refl next accepted.0)
 
 -- ---- one record
 
@@ -222,7 +228,7 @@ module _ {C : Type 0} {t : Store C} {head : Head} {mid new : Script} {s : Reader
     pub one_refused : (at : ℕ) (refusal : Refusal) → at ≡ mid.given
         → ((rs : List Record) → Represents t s rs → (refusal.at ≡ at) × (((refusal.why ≡ Memory) × MayRunOut (refusal_of s.limits rs r)) ⊎ (refusal_of s.limits rs r ≡ Some refusal.why)))
         → SeesRefused t head mid s k refusal new
-    one_refused at refusal place refused profile now first judge b m = take_refused b m same next at refusal place (refused _ m.taken.stands)
+    one_refused at refusal place refused profile now first judge b m = as_kept (take_refused b m same next at refusal place (refused _ m.taken.stands))
 
     -- it is taken and judged
     pub one_seen : {after : ReaderState C} {judged : FileJudge} (candidate : Candidate)
@@ -230,4 +236,5 @@ module _ {C : Type 0} {t : Store C} {head : Head} {mid new : Script} {s : Reader
         → after.unit ≡ s.unit → after.limits ≡ s.limits → after.profile ≡ s.profile → (IsTrue (holds l) → IsCandidate l.profile candidate r) → GoesOn l candidate judged
         → SeesMore t head mid s k new after judged
     one_seen {after} {judged} candidate taken unit limits by says goes_on profile now first judge b m =
-        seen_more b m same next after judged candidate (taken _ m.taken.stands) unit limits by says goes_on
+        let accepted = taken _ m.taken.stands in
+        (seen_more b m same next after judged candidate accepted unit limits by says goes_on, take_wants b m same next accepted.0)

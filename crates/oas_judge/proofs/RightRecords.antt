@@ -10,29 +10,29 @@ use Rattle.oas_record.specs.declared.records.Record.{Record}
 use Rattle.oas_record.specs.declared.records.Record.TheVariants as record_of
 use Rattle.oas_record.specs.declared.references.CellRef.TheVariants as cell
 use Rattle.oas_record.specs.Records.{record_in, IsInner}
-use Rattle.oas_layout.specs.declared.element.Element.{Element}
-use Rattle.oas_layout.specs.declared.element.Element.TheVariants.{Placement}
-use Rattle.oas_layout.specs.declared.limits.Limits.{Limits}
-use Rattle.oas_layout.specs.declared.profile.Profile.{Profile}
-use Rattle.oas_layout.specs.Same.{IsNormal}
-use Rattle.oas_layout.specs.Weight.{lacks_points}
-use Rattle.oas_runs.specs.oas_drawing.declared.drawn.Drawn.{Drawn}
-use Rattle.oas_runs.specs.oas_drawing.declared.drawn.Drawn.TheVariants.{Named}
-use Rattle.oas_runs.specs.oas_drawing.Drawing.{elements_at}
-use Rattle.oas_runs.specs.oas_drawing.Reasons.{first_of}
-use Rattle.oas_runs.specs.oas_modal.Stands as stands
-use Rattle.oas_runs.specs.oas_modal.Stands.{refused_after, weight_so_far_of}
-use Rattle.oas_runs.specs.oas_form.Records.{element_record}
-use Rattle.oas_runs.specs.oas_form.Judging.{Entry, entry_records, Judge, judge_of, Matches, AllMatch, AreRead}
-use Rattle.oas_runs.proofs.oas_form_proofs.FieldsGiven.{GivenFieldsFit}
-use Rattle.oas_runs.proofs.oas_form_proofs.DrawsSound.{IsSoundDrawn, draws_sound}
-use Rattle.oas_runs.proofs.oas_form_proofs.DrawnSound.{drawn_sound}
-use Rattle.oas_runs.proofs.oas_form_proofs.JudgeBytes.{bytes_go_on}
-use Rattle.oas_runs.proofs.oas_form_proofs.JudgeMatches.{all_shortest, AreShortestInOrder}
-use Rattle.oas_runs.proofs.oas_form_proofs.JudgeRecords.{all_more, records_more}
-use Rattle.oas_runs.proofs.oas_form_proofs.KindLemmas.{IsDrawn}
-use Rattle.oas_runs.proofs.oas_form_proofs.AllKinds.{plain_of}
-use Rattle.oas_runs.proofs.oas_form_proofs.MeantLemmas.{reverse-is, IsAbsolute, draws}
+use Rattle.oas_elements.specs.declared.element.Element.{Element}
+use Rattle.oas_elements.specs.declared.element.Element.TheVariants.{Placement}
+use Rattle.oas_elements.specs.declared.limits.Limits.{Limits}
+use Rattle.oas_elements.specs.declared.profile.Profile.{Profile}
+use Rattle.oas_elements.specs.Same.{IsNormal}
+use Rattle.oas_elements.specs.Weight.{lacks_points}
+use Rattle.oas_writing.specs.Drawn.{Drawn}
+use Rattle.oas_writing.specs.Drawn.TheVariants.{Named}
+use Rattle.oas_writing.specs.Drawing.{elements_at}
+use Rattle.oas_writing.specs.Reasons.{first_of}
+use Rattle.oas_writing.specs.Stands as stands
+use Rattle.oas_writing.specs.Stands.{refused_after, weight_so_far_of}
+use Rattle.oas_writing.specs.Records.{element_record}
+use Rattle.oas_writing.specs.Judging.{Entry, entry_records, Judge, judge_of, Matches, AllMatch, AreRead}
+use Rattle.oas_writing.proofs.FieldsGiven.{GivenFieldsFit}
+use Rattle.oas_writing.proofs.DrawsSound.{IsSoundDrawn, draws_sound}
+use Rattle.oas_writing.proofs.DrawnSound.{drawn_sound}
+use Rattle.oas_writing.proofs.JudgeBytes.{bytes_go_on}
+use Rattle.oas_writing.proofs.JudgeMatches.{all_shortest, AreShortestInOrder}
+use Rattle.oas_writing.proofs.JudgeRecords.{all_more, records_more}
+use Rattle.oas_writing.proofs.KindLemmas.{IsDrawn}
+use Rattle.oas_writing.proofs.AllKinds.{plain_of}
+use Rattle.oas_writing.proofs.MeantLemmas.{reverse-is, IsAbsolute, draws}
 use Rattle.oas_judge.specs.Candidates.{IsShort, IsDrawable}
 use Rattle.oas_judge.specs.Own.{own_drawn}
 use Rattle.oas_judge.proofs.OwnLemmas.{own_draws, element_gives}

@@ -1,5 +1,5 @@
 -- Bytes in memory of which all were taken.
-use Rattle.std.proofs.Common.{◌≡◌, List, ℕ, ◌++◌, length, take, Option, Some, None, sym, ap, subst, ◌∙◌, arith}
+use Rattle.std.proofs.Common.{◌≡◌, List, ℕ, length, take, Option, Some, None, sym, ap, subst, ◌∙◌, arith}
 use Rattle.std.proofs.lemmas.List.{take_all}
 use Rattle.std.proofs.Math.Seq.{take-append_seam}
 use Rattle.oas_num.specs.Script.{Script, Rest, Gave, Consumed, slice_script}

@@ -6,12 +6,12 @@ use Rattle.oas_num.specs.Style.{Any}
 use Rattle.oas_record.specs.declared.heads.Head.{Head}
 use Rattle.oas_record.specs.declared.records.Record.{Record}
 use Rattle.oas_record.specs.Heads.{head_in}
-use Rattle.oas_layout.specs.declared.limits.Limits.{Limits}
-use Rattle.oas_layout.specs.declared.profile.Profile.{Profile}
-use Rattle.oas_runs.specs.oas_file.Acceptance.{Allowed}
-use Rattle.oas_runs.specs.oas_file.Gathering.{inner_in}
-use Rattle.oas_runs.specs.oas_form.Bytes.{head_bytes}
-use Rattle.oas_runs.specs.oas_form.Judging.{Entry, entry_records, Stands}
+use Rattle.oas_elements.specs.declared.limits.Limits.{Limits}
+use Rattle.oas_elements.specs.declared.profile.Profile.{Profile}
+use Rattle.oas_writing.specs.Acceptance.{Allowed}
+use Rattle.oas_writing.specs.Gathering.{inner_in}
+use Rattle.oas_writing.specs.Bytes.{head_bytes}
+use Rattle.oas_writing.specs.Judging.{Entry, entry_records, Stands}
 use Rattle.oas_judge.specs.declared.candidates.Candidate.{Candidate}
 use Rattle.oas_judge.specs.declared.judge.FileJudge.{FileJudge}
 use Rattle.oas_judge.specs.Candidates.{IsCandidate}

@@ -10,10 +10,10 @@ use Rattle.oas_record.specs.declared.records.Record.{Record}
 use Rattle.oas_record.specs.Heads.{head_in}
 use Rattle.oas_record.specs.Records.{record_in}
 use Rattle.oas_record.specs.Refusals.{RecordTook}
-use Rattle.oas_layout.specs.declared.limits.Limits.{Limits}
-use Rattle.oas_runs.specs.oas_file.Deciding.{HasNoMemory, IsReasoned}
-use Rattle.oas_runs.specs.oas_file.Gathering.{ConsumesNext}
-use Rattle.oas_runs.specs.oas_file.Reading.{IsRefused, IsPlaced}
+use Rattle.oas_elements.specs.declared.limits.Limits.{Limits}
+use Rattle.oas_writing.specs.Deciding.{HasNoMemory, IsReasoned}
+use Rattle.oas_writing.specs.Gathering.{ConsumesNext}
+use Rattle.oas_writing.specs.Reading.{IsRefused, IsPlaced}
 
 -- as reading refuses; but memory may run out for any byte, also where no bytes decide it
 abbrev pub RefusesKept : Limits → Script → Refusal → Script → Type 0

@@ -1,3 +1,17 @@
+pub use Rattle.oas_writing.specs.Acceptance
+pub use Rattle.oas_writing.specs.Alone
+pub use Rattle.oas_writing.specs.Bytes
+pub use Rattle.oas_writing.specs.Canonical
+pub use Rattle.oas_writing.specs.Compact
+pub use Rattle.oas_writing.specs.Deciding
+pub use Rattle.oas_writing.specs.FileLaws
+pub use Rattle.oas_writing.specs.Files
+pub use Rattle.oas_writing.specs.FormLaws
+pub use Rattle.oas_writing.specs.Gathering
+pub use Rattle.oas_writing.specs.LayoutOf
+pub use Rattle.oas_writing.specs.Listing
+pub use Rattle.oas_writing.specs.Putting
+pub use Rattle.oas_writing.specs.Reading
 pub mod Own
 pub mod Keeping
 pub mod KeptScripts
@@ -7,6 +21,6 @@ pub mod Candidates
 pub mod FileJudges
 pub mod Judged
 pub mod Peeked
-pub use Rattle.oas_runs.specs.oas_file
-pub use Rattle.oas_runs.specs.oas_form
-pub use Rattle.oas_runs.specs as oas_runs
+pub mod Sources
+pub mod Parts
+pub mod Given

@@ -15,13 +15,13 @@ use Rattle.oas_record.specs.declared.paths.Extension.TheVariants.{Explicit}
 use Rattle.oas_record.specs.declared.paths.Extensions.{Extensions}
 use Rattle.oas_record.specs.declared.records.Record.{Record}
 use Rattle.oas_record.specs.declared.records.Record.TheVariants as record_of
-use Rattle.oas_layout.specs.declared.element.Turns.{Turns}
-use Rattle.oas_layout.specs.declared.element.Element.{Element}
-use Rattle.oas_layout.specs.Grid.{is_grid_point, fits_grid}
-use Rattle.oas_runs.specs.oas_drawing.declared.drawn.Drawn.{Drawn}
-use Rattle.oas_runs.specs.oas_drawing.declared.drawn.Drawn.TheVariants.{Named}
-use Rattle.oas_runs.specs.oas_drawing.Turns.{turned}
-use Rattle.oas_runs.specs.oas_drawing.Drawing.{placement_at, text_at, rectangle_at, polygon_at, path_at, circle_at}
+use Rattle.oas_elements.specs.declared.element.Turns.{Turns}
+use Rattle.oas_elements.specs.declared.element.Element.{Element}
+use Rattle.oas_elements.specs.Grid.{is_grid_point, fits_grid}
+use Rattle.oas_writing.specs.Drawn.{Drawn}
+use Rattle.oas_writing.specs.Drawn.TheVariants.{Named}
+use Rattle.oas_writing.specs.Turns.{turned}
+use Rattle.oas_writing.specs.Drawing.{placement_at, text_at, rectangle_at, polygon_at, path_at, circle_at}
 
 -- a place that is given whole, without a repetition
 abbrev pub point_if : Option ℤ → Option ℤ → Option RepField → Option Point

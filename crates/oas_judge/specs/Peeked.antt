@@ -1,12 +1,12 @@
 -- A rectangle, a placement, a text, a polygon or a path that is at hand, and its element.
 use Rattle.std.specs.Prelude.{◌≡◌, IsTrue, Some}
 use Rattle.oas_record.specs.declared.records.Record.TheVariants.{Rectangle}
-use Rattle.oas_layout.specs.declared.element.Element.{Element}
-use Rattle.oas_layout.specs.declared.profile.Profile.{Profile}
-use Rattle.oas_layout.specs.Same.{normal}
-use Rattle.oas_layout.specs.Sound.{Fits}
-use Rattle.oas_runs.specs.oas_drawing.declared.drawn.Drawn.TheVariants.{Named}
-use Rattle.oas_runs.specs.oas_form.Records.{element_record}
+use Rattle.oas_elements.specs.declared.element.Element.{Element}
+use Rattle.oas_elements.specs.declared.profile.Profile.{Profile}
+use Rattle.oas_elements.specs.Same.{normal}
+use Rattle.oas_elements.specs.Sound.{Fits}
+use Rattle.oas_writing.specs.Drawn.TheVariants.{Named}
+use Rattle.oas_writing.specs.Records.{element_record}
 use Rattle.oas_peek.specs.declared.rectangles.PeekedRectangle.{PeekedRectangle}
 use Rattle.oas_peek.specs.declared.named.NamedOnce.{NamedOnce}
 use Rattle.oas_peek.specs.Named.{named_record}

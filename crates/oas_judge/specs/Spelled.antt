@@ -5,7 +5,7 @@ use Rattle.oas_num.specs.Style.{Any}
 use Rattle.oas_record.specs.declared.records.Record.{Record}
 use Rattle.oas_record.specs.declared.records.Record.TheVariants.{End}
 use Rattle.oas_record.specs.Records.{record_in}
-use Rattle.oas_runs.specs.oas_file.Gathering.{inner_in}
+use Rattle.oas_writing.specs.Gathering.{inner_in}
 
 -- they spell the record, or END where there is none
 abbrev pub NextIs : Bool → Option Record → List ℕ → Type 0

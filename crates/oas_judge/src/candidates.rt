@@ -1,11 +1,11 @@
 //! What a record may be in a canonical file, from the record alone.
 ghost use Rattle.std.specs.Prelude.{◌↔◌, IsTrue, IfOk};
 ghost use Rattle.oas_record.specs.declared.records.Record.TheVariants.{Cell as OneCell};
-ghost use Rattle.oas_layout.specs.declared.profile.Profile.{Profile as OneProfile};
+ghost use Rattle.oas_elements.specs.declared.profile.Profile.{Profile as OneProfile};
 ghost use Rattle.oas_judge.specs.Candidates.{IsCandidate, IsFitting, IsKeptFit, IsDrawable, IsShort};
 
 use crate::own::own_element;
-use oas_layout::{Element, Profile};
+use oas_elements::{Element, Profile};
 use oas_num::Name;
 use oas_record::{CellRef, Record};
 use std::alloc::{AllocError, Global};

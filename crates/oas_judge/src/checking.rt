@@ -1,21 +1,21 @@
 //! Whether a file is canonical, and reading a file that is judged as it is read.
 ghost use Rattle.std.specs.Prelude.{◌≡◌, ◌↔◌, Bool, IsTrue, OnOk, IfOk, IfErr};
 ghost use Rattle.oas_num.specs.Script.{Script, IsAtEnd};
-ghost use Rattle.oas_layout.specs.declared.profile.Profile.{Profile as OneProfile};
-ghost use Rattle.oas_runs.specs.oas_form.Bytes.{end_bytes};
+ghost use Rattle.oas_elements.specs.declared.profile.Profile.{Profile as OneProfile};
+ghost use Rattle.oas_writing.specs.Bytes.{end_bytes};
 ghost use Rattle.oas_judge.specs.FileJudges.{holds, BeginsJudging};
 ghost use Rattle.oas_judge.specs.Judged.{JudgesRecords, IsJudged, IsReadAndJudged};
 ghost use Rattle.oas_judge.specs.Kept.{RefusesKept};
 
 use crate::judge::FileJudge;
 use crate::records::judge_records;
-use oas_layout::{Limits, Profile};
+use oas_elements::{Limits, Profile};
 use oas_num::{Refusal, Source};
 use oas_record::Head;
-use oas_runs::oas_compact::{CompactCell, KeptBy};
-use oas_runs::oas_file::find_end_of_input;
-use oas_runs::oas_modal::{CellStore, CountedCell, Reader};
-use oas_runs::{CompactLayout, finish_compact};
+use oas_writing::{
+    ByProfileOne, ByProfileTwo, CellStore, CompactCell, CountedCell, KeptBy, Layout, Reader,
+    find_end_of_input, finish_layout,
+};
 use std::alloc::Global;
 
 /// Gives the reader, and shows the judge, the records up to END, and finds the end of the input. Returns END's offset.
@@ -59,24 +59,22 @@ fn read_behind<S: Source, P: KeptBy>(
     head: Head,
     limits: Limits,
     judge: &mut FileJudge,
-) -> Result<CompactLayout, Refusal>
-    requires { (judged_by : OneProfile) × (origin : Script) × BeginsJudging judged_by origin head judge.old (S.script source.old) }
+) -> Result<Layout, Refusal>
     ensures read { (judged_by : OneProfile) (origin : Script) → BeginsJudging judged_by origin head judge.old (S.script source.old) →
         IfOk result (λ k. (yes : Bool) → IsTrue yes ↔ (IsTrue (holds judge.new) × (end_bytes ≡ judge.new.bytes.items)) → IsReadAndJudged limits judged_by P.profile origin k yes (S.script source.new)) }
     ensures refused { (judged_by : OneProfile) (origin : Script) → BeginsJudging judged_by origin head judge.old (S.script source.old) → IfErr result (λ refusal. RefusesKept limits origin refusal (S.script source.new)) }
 {
     let mut reader: Reader<CompactCell<P>> = Reader::new(alloc, head.unit, limits, P::profile());
     let end = judge_to_end(alloc, source, head, &mut reader, judge)?;
-    let runs = finish_compact(alloc, reader, end)?;
-    Ok(CompactLayout::of(runs, limits, P::profile()))
+    finish_layout(alloc, reader, end)
 }
 
 /// Whether what a source gives is an accepted file that is canonical by the profile.
 ///
 /// Each record is accepted and judged as it is read. Of the file only names, numbers, and for each cell how often it uses a
 /// number are kept; and, while the file may be canonical, the latest name, element and record. So memory does not grow with
-/// the elements. A file is refused as [`accept_file`](oas_file::accept_file) refuses it, except that memory may run out at
-/// any byte.
+/// the elements. A file is refused as [`read_layout`](oas_layout::read_layout) refuses it, except that memory may run
+/// out at any byte.
 pub fn is_canonical<S: Source>(
     alloc: Global,
     source: &mut S,
@@ -91,21 +89,38 @@ pub fn is_canonical<S: Source>(
     Ok(judge.is_done())
 }
 
-/// Reads the layout of what a source gives, as keys of elements as the profile of `P` keeps them, and whether the file is
-/// canonical by the profile `judged_by`.
-///
-/// The bytes are not kept. A file is refused as [`read_compact`](oas_runs::read_compact) refuses it, except that memory may
-/// run out at any byte.
-pub fn read_judged<S: Source, P: KeptBy>(
+/// What [`read_judged`] reads, where the profile by which the layout is kept is a type.
+fn read_kept<S: Source, P: KeptBy>(
     alloc: Global,
     source: &mut S,
     limits: Limits,
     judged_by: Profile,
-) -> Result<(CompactLayout, bool), Refusal>
+) -> Result<(Layout, bool), Refusal>
     ensures read { IfOk result (λ read. IsReadAndJudged limits judged_by P.profile (S.script source.old) read.0 read.1 (S.script source.new)) }
     ensures refused { IfErr result (λ refusal. RefusesKept limits (S.script source.old) refusal (S.script source.new)) }
 {
     let (head, mut judge) = FileJudge::begin(alloc, source, judged_by)?;
     let layout = read_behind::<S, P>(alloc, source, head, limits, &mut judge)?;
     Ok((layout, judge.is_done()))
+}
+
+/// Reads the layout of what a source gives, kept by the profile `kept_by`, and whether the file is canonical by the profile
+/// `judged_by`.
+///
+/// The bytes are not kept. A file is refused as [`read_layout`](oas_layout::read_layout) refuses it, except that memory may run
+/// out at any byte.
+pub fn read_judged<S: Source>(
+    alloc: Global,
+    source: &mut S,
+    limits: Limits,
+    judged_by: Profile,
+    kept_by: Profile,
+) -> Result<(Layout, bool), Refusal>
+    ensures read { IfOk result (λ read. IsReadAndJudged limits judged_by kept_by (S.script source.old) read.0 read.1 (S.script source.new)) }
+    ensures refused { IfErr result (λ refusal. RefusesKept limits (S.script source.old) refusal (S.script source.new)) }
+{
+    match kept_by {
+        Profile::One => read_kept::<S, ByProfileOne>(alloc, source, limits, judged_by),
+        Profile::Two => read_kept::<S, ByProfileTwo>(alloc, source, limits, judged_by),
+    }
 }

@@ -1,12 +1,12 @@
 //! A polygon or a path that is at hand, in the cell that is judged.
 ghost use Rattle.std.specs.Prelude.{◌≡◌, true, false, IfSome};
-ghost use Rattle.oas_layout.specs.Same.{normal};
-ghost use Rattle.oas_layout.specs.Weight.{lacks_points};
+ghost use Rattle.oas_elements.specs.Same.{normal};
+ghost use Rattle.oas_elements.specs.Weight.{lacks_points};
 ghost use Rattle.oas_judge.specs.Peeked.{IsFigureBy};
 
 use crate::candidates::is_drawable;
 use crate::own::own_element;
-use oas_layout::{Element, Profile};
+use oas_elements::{Element, Profile};
 use oas_peek::PeekedFigure;
 use std::alloc::Global;
 

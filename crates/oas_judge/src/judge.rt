@@ -1,10 +1,11 @@
 //! The judge of a file, which sees it part by part.
 ghost use Rattle.std.specs.Prelude.{◌≡◌, ◌↔◌, IsTrue, true, false, take, [], ℕ, List, IfSome, OnOk, IfOk, IfErr};
 ghost use Rattle.oas_num.specs.declared.refusals.Why.TheVariants.{Memory as NoMemory};
-ghost use Rattle.oas_layout.specs.declared.limits.Limits.{Limits};
-ghost use Rattle.oas_runs.specs.oas_form.Bytes.{end_bytes};
+ghost use Rattle.oas_elements.specs.declared.limits.Limits.{Limits};
+ghost use Rattle.oas_writing.specs.Bytes.{end_bytes};
 ghost use Rattle.oas_judge.specs.Candidates.{IsCandidate, IsFitting};
-ghost use Rattle.oas_judge.specs.FileJudges.{holds, BeginsJudging, GoesOn, IsFront, IsJudging, GoesOnPeeked};
+ghost use Rattle.oas_judge.specs.FileJudges.{holds, BeginsJudging, GoesOn, GoesOnBy, IsFront, IsJudging, GoesOnPeeked};
+ghost use Rattle.oas_judge.specs.declared.judge.FileJudge.{FileJudge as TheJudge};
 ghost use Rattle.oas_judge.specs.Peeked.{IsSpelledBy};
 ghost use Rattle.oas_peek.specs.Peeked.{IsPeeked};
 ghost use Rattle.oas_peek.specs.Named.{IsPeekedNamed, HasValidName, named_record};
@@ -18,12 +19,11 @@ use crate::figures::spelled_figure;
 use crate::named::draw_named;
 use crate::own::own_rectangle;
 use crate::spelled::{read_head_spelled, take_record_spelled};
-use oas_layout::{Element, Profile};
+use oas_elements::{Element, Profile};
 use oas_num::{Fraction, Refusal, Source, Why};
 use oas_peek::{PeekedFigure, PeekedNamed, PeekedRectangle};
 use oas_record::{Head, Record};
-use oas_runs::oas_file::take_record;
-use oas_runs::oas_form::{FormJudge, is_end, is_head};
+use oas_writing::{FormJudge, is_end, is_head, take_record};
 use std::alloc::Global;
 use std::mem;
 
@@ -60,6 +60,18 @@ fn spelled_element(ahead: &PeekedRectangle) -> Option<Element>
     if is_drawable(&own) { Some(own) } else { None }
 }
 
+/// Judges a record by what it may be in a canonical file and by its bytes, where all before it were as in one.
+fn judge_form(form: &mut FormJudge, candidate: Candidate, bytes: &[u8])
+    requires { IsFitting candidate }
+    ensures { (j : TheJudge) → j.form ≡ form.old → IsTrue (holds j) → GoesOnBy bytes.now j candidate (record j { form = form.new }) }
+{
+    match candidate {
+        Candidate::Cell(name) => form.open(name, bytes),
+        Candidate::Element(element) => form.draw(element, bytes),
+        Candidate::Other => form.refuse(),
+    }
+}
+
 impl FileJudge {
     /// Reads the head of a file, and begins to judge it.
     pub(crate) fn begin<S: Source>(
@@ -71,19 +83,19 @@ impl FileJudge {
         ensures refused { IfErr result (λ refusal. (limits : Limits) → RefusesKept limits (S.script source.old) refusal (S.script source.new)) }
     {
         let (head, bytes) = read_head_spelled(alloc, source, Vec::new(alloc))?;
-        let judge = FileJudge::of_front(profile, head.unit, head.flag_in_end, bytes);
+        let judge = FileJudge::of_front(alloc, profile, &head, &bytes);
         Ok((head, judge))
     }
 
     /// The judge of a file that begins with these bytes.
-    fn of_front(profile: Profile, unit: Fraction, flag_in_end: bool, bytes: Vec<u8>) -> FileJudge
-        ensures { IsJudging profile result (record { unit = unit; flag_in_end = flag_in_end }) bytes.items [] }
+    pub(crate) fn of_front(alloc: Global, profile: Profile, head: &Head, bytes: &[u8]) -> FileJudge
+        ensures { IsJudging profile result head.now bytes.now [] }
     {
         FileJudge {
             profile,
-            begins: is_front(unit, flag_in_end, &bytes),
+            begins: is_front(head.unit, head.flag_in_end, bytes),
             form: FormJudge::new(),
-            bytes,
+            bytes: Vec::new(alloc),
         }
     }
 
@@ -187,13 +199,18 @@ impl FileJudge {
         requires { IsFitting candidate }
         ensures { GoesOn self.old candidate self.new }
     {
-        if !self.holds() {
-            return;
+        if self.holds() {
+            judge_form(&mut self.form, candidate, &self.bytes);
         }
-        match candidate {
-            Candidate::Cell(name) => self.form.open(name, &self.bytes),
-            Candidate::Element(element) => self.form.draw(element, &self.bytes),
-            Candidate::Other => self.form.refuse(),
+    }
+
+    /// The same, where these are the record's bytes.
+    pub(crate) fn judge_by(&mut self, candidate: Candidate, bytes: &[u8])
+        requires { IsFitting candidate }
+        ensures { GoesOnBy bytes.now self.old candidate self.new }
+    {
+        if self.holds() {
+            judge_form(&mut self.form, candidate, bytes);
         }
     }
 

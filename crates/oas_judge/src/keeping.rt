@@ -2,17 +2,17 @@
 ghost use Rattle.std.specs.Prelude.{◌≡◌, ◌<◌, [], IfOk, IfErr, vec_len, vec_capacity};
 ghost use Rattle.oas_judge.specs.declared.keeping.Ending.TheVariants.{Open};
 ghost use Rattle.oas_judge.specs.Keeping.{IsKeeping, IsKeeping-prop, reason_by};
-ghost use Rattle.oas_layout.specs.declared.limits.Limits.{Limits};
+ghost use Rattle.oas_elements.specs.declared.limits.Limits.{Limits};
 ghost use Rattle.oas_judge.specs.Kept.{HeadKept, NextKept, RefusesKept, RefusesNext};
 
 use oas_num::{Refusal, Source, SourceFault, Why};
 use oas_record::{Head, Record, read_head};
-use oas_runs::oas_file::take_record;
+use oas_writing::take_record;
 use std::alloc::{AllocError, Global};
 use std::marker::{Brand, PhantomData};
 
 /// Which source's bytes are kept, and where it was before the first of them. Each use chooses it.
-trait Start {
+pub(crate) trait Start {
     ghost use Rattle.oas_num.specs.Script.{Script};
     ghost use base.Fml.{GName};
 

@@ -5,10 +5,11 @@
 //! - [`is_canonical`] returns whether an accepted file is a canonical form by the profile that it is handed, whatever the
 //!   source (`IsJudged`, specs/Judged.antt). It builds no layout, and keeps names, numbers and counts, and one record at a
 //!   time.
-//! - [`read_judged`] returns that and, in the same pass, the layout as runs of keys (oas_runs), as another profile keeps it
-//!   (`IsReadAndJudged`).
-//! - Both refuse as `read_layout` of oas_file does, except that memory may run out at any byte (`RefusesKept`,
+//! - [`read_judged`] returns that and, in the same pass, the layout, as another profile keeps it (`IsReadAndJudged`).
+//! - Both refuse as `read_layout` of oas_layout does, except that memory may run out at any byte (`RefusesKept`,
 //!   specs/Kept.antt), at the offset of the current part (`HasNoMemory` of oas_file).
+//! - [`read_given`] returns the bytes of a file where these are a canonical form by the profile, and otherwise its layout
+//!   (`ReadsGiven`, specs/Given.antt). It refuses just as `read_layout` does.
 //!
 //! A record in the shortest style gives all its fields, so what it draws is a function of the record alone (`own_drawn`,
 //! specs/Own.antt), and so is what it may be in a canonical file (`IsCandidate`, specs/Candidates.antt). Where coordinates
@@ -41,7 +42,18 @@
 //!   style its bytes are the canonical ones of its element, by a law of oas_form, so none is compared or kept; where it
 //!   isn't, it is read and judged like every record. So is a placement or a text that follows an element of another kind
 //!   (src/named.rt), and a polygon that the profile keeps in another form (src/figures.rt; proofs/FigureSteps.antt: the steps
-//!   between the vertices of a plain list are that list). src/checking.rt: the two calls.
+//!   between the vertices of a plain list are that list). src/checking.rt: the two calls; the second
+//!   matches on the profile once, since the reader's stores have it as a type.
+//!
+//! - src/given.rt, src/parts.rt: a file that may be canonical is judged over counted cells, by a source that keeps its bytes
+//!   (src/kept.rt), until a record isn't as in a canonical file, or couldn't be judged for lack of memory. Then the layout is
+//!   read from these bytes and from what the source still gives (src/joined.rt).
+//!
+//! Two things shape the last. A refusal says which of the bytes that were taken decided it, so where memory runs out while
+//! kept bytes are read again, the refusal has to be right for all of them. So judging stops only behind a whole record: there
+//! memory may run out (`MayWant`, specs/Parts.antt). And no contract says that what is skipped is within the source's limit,
+//! so a source that gives kept bytes again has a limit of its own, which is the source's once this gave a byte or its end
+//! (`limit_with`, specs/Sources.antt).
 //!
 //! How the proof goes. `HasSeen` (specs/Judged.antt) is the loop's invariant: the entries so far, that the reader represents
 //! their records, and that the judge represents them (`IsJudging`, specs/FileJudges.antt). A step of the judge is one of
@@ -49,21 +61,30 @@
 //! gives (proofs/JudgeSteps.antt). A record that matches is a CELL by its name or gives an element in its kept form
 //! (`right_next`, proofs/RightRecords.antt), so one for which neither holds fails. A judge that has failed stays failed
 //! (`stays_failed`). At the end the entries are the whole file, which by oas_form's `BytesJudge` is a canonical form exactly
-//! if the judge holds (proofs/FileLemmas.antt). The layout that is held as keys beside that result is that of the same bytes,
-//! by the lemmas with which oas_runs proves it for `read_compact` (`read_judged`, in the same file).
+//! if the judge holds (proofs/FileLemmas.antt). The layout beside that result is that of the same bytes, since `finish_layout` of
+//! oas_layout returns the layout of whatever records the reader represents (`read_judged`, in the same file).
 #![tactic(auto)]
 
 mod candidates;
 mod checking;
 mod figures;
+mod given;
+mod joined;
 mod judge;
 mod keeping;
+mod kept;
 mod named;
 mod own;
+mod parts;
 mod records;
 mod spelled;
 
 // The crates below, for those above.
 pub use checking::{is_canonical, read_judged};
-pub use oas_runs;
-pub use oas_runs::{oas_compact, oas_file, oas_form};
+pub use given::{Given, read_given};
+pub use oas_writing::{
+    ByProfileOne, ByProfileTwo, Cells, CompactCell, Draft, Elements, FormJudge, KeptBy,
+    KeyedElement, Layout, Refused, ShownElement, ShownPoints, file_laws, find_end_of_input,
+    finish_layout, form_laws, has_canonical_bytes, put_canonical, put_cell_alone, put_listing,
+    read_layout, show, write_canonical, write_listing,
+};

@@ -1,18 +1,18 @@
 //! A placement or a text that is at hand, in the cell that is judged.
 ghost use Rattle.std.specs.Prelude.{◌≡◌, true, false, List, ℕ, Some, IfSome};
 ghost use Rattle.oas_peek.specs.Named.{HasValidName};
-ghost use Rattle.oas_layout.specs.Element.{turn_count};
-ghost use Rattle.oas_layout.specs.Grid.{is_coordinate};
-ghost use Rattle.oas_layout.specs.declared.element.Element.{Element as OneElement};
-ghost use Rattle.oas_runs.specs.oas_form.Bytes.{element_bytes};
-ghost use Rattle.oas_runs.specs.oas_form.Judging.{GoesOnDrawing};
+ghost use Rattle.oas_elements.specs.Element.{turn_count};
+ghost use Rattle.oas_elements.specs.Grid.{is_coordinate};
+ghost use Rattle.oas_elements.specs.declared.element.Element.{Element as OneElement};
+ghost use Rattle.oas_writing.specs.Bytes.{element_bytes};
+ghost use Rattle.oas_writing.specs.Judging.{GoesOnDrawing};
 ghost use Rattle.oas_judge.specs.Peeked.{IsNamedBy};
 
 use crate::candidates::HEAVIEST;
 use crate::own::FURTHEST;
-use oas_layout::Turns;
+use oas_elements::Turns;
 use oas_peek::{Given, NamedOnce};
-use oas_runs::oas_form::FormJudge;
+use oas_writing::FormJudge;
 
 /// This many quarter turns, below four.
 fn turns_by(quarters: u8) -> Option<Turns>

@@ -2,12 +2,12 @@
 
 ghost use Rattle.std.specs.Prelude.{◌≡◌, IfSome, IfOk};
 ghost use Rattle.oas_shape.specs.Polylines.{vertices_of};
-ghost use Rattle.oas_layout.specs.Grid.{is_grid_point};
+ghost use Rattle.oas_elements.specs.Grid.{is_grid_point};
 ghost use Rattle.oas_record.specs.declared.records.Record.{Record as OneRecord};
-ghost use Rattle.oas_runs.specs.oas_form.Records.{element_record};
+ghost use Rattle.oas_writing.specs.Records.{element_record};
 ghost use Rattle.oas_judge.specs.Own.{AreVertices, ArePair, is_memory, IsOwn, own_drawn, point_given, turn_given, number_given, start_given, end_given};
 
-use oas_layout::{Element, Turns};
+use oas_elements::{Element, Turns};
 use oas_num::Why;
 use oas_record::{
     CellRef, Circle, Extension, Extensions, Path, Placement, Polygon, Record, Rectangle, Spot,

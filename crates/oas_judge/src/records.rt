@@ -6,7 +6,7 @@ use crate::judge::FileJudge;
 use oas_num::{Refusal, Source};
 use oas_peek::{peek_figure, peek_named, peek_rectangle};
 use oas_record::Head;
-use oas_runs::oas_modal::{CellStore, Reader};
+use oas_writing::{CellStore, Reader};
 use std::alloc::Global;
 
 /// Gives the reader, and shows the judge, a rectangle that is at hand, where the judge can decide at once. Returns false
@@ -83,7 +83,7 @@ fn next_figure<S: Source, C: CellStore>(
 
 /// Gives the reader, and shows the judge, the next record, where it is at hand and the judge can decide at once. Returns
 /// false where it does nothing.
-fn next_at_hand<S: Source, C: CellStore>(
+pub(crate) fn next_at_hand<S: Source, C: CellStore>(
     alloc: Global,
     source: &mut S,
     head: &Head,

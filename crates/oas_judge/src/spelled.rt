@@ -7,14 +7,14 @@ ghost use Rattle.std.specs.Prelude.{◌≡◌, ◌≤◌, length, take, IfOk, If
 ghost use Rattle.oas_num.specs.Script.{Consumed};
 ghost use Rattle.oas_num.specs.Style.{Any};
 ghost use Rattle.oas_record.specs.Heads.{head_in};
-ghost use Rattle.oas_layout.specs.declared.limits.Limits.{Limits};
+ghost use Rattle.oas_elements.specs.declared.limits.Limits.{Limits};
 ghost use Rattle.oas_judge.specs.Kept.{RefusesKept, RefusesNext};
 ghost use Rattle.oas_judge.specs.Spelled.{NextIs, FirstIs};
 
 use crate::keeping::{read_head_kept, take_record_kept};
 use oas_num::{Refusal, SliceSource, Source, Why};
 use oas_record::{Head, Record, read_head};
-use oas_runs::oas_file::take_record;
+use oas_writing::take_record;
 use std::alloc::Global;
 
 /// The head of a file that is spelled by all of these bytes. None if out of memory, or they spell none.

@@ -5,11 +5,11 @@ use Rattle.std.specs.Prelude.{◌&&◌}
 use Rattle.std.specs.List.{list_all}
 use Rattle.std.proofs.lemmas.List.{append-nil}
 use Rattle.oas_ring.specs.declared.point.Point.{Point}
-use Rattle.oas_layout.specs.declared.element.Turns.{Turns}
-use Rattle.oas_layout.specs.declared.element.Element.{Element}
-use Rattle.oas_layout.specs.declared.element.Element.TheVariants.{Placement, Text, Rectangle, Polygon, Path, Circle}
-use Rattle.oas_layout.specs.Grid.{is_coordinate, is_grid_point, reaches}
-use Rattle.oas_layout.specs.Sound.{IsSound}
+use Rattle.oas_elements.specs.declared.element.Turns.{Turns}
+use Rattle.oas_elements.specs.declared.element.Element.{Element}
+use Rattle.oas_elements.specs.declared.element.Element.TheVariants.{Placement, Text, Rectangle, Polygon, Path, Circle}
+use Rattle.oas_elements.specs.Grid.{is_coordinate, is_grid_point, reaches}
+use Rattle.oas_elements.specs.Sound.{IsSound}
 use Rattle.oas_keys.specs.Numbers.{IsStep}
 use Rattle.oas_keys.specs.Keys.{key_of, fields_key}
 use Rattle.oas_keys.specs.Reading.{HasFields}

@@ -4,7 +4,7 @@ use Rattle.std.proofs.lemmas.Bool.Decides.{nat_tests}
 use Rattle.std.proofs.lemmas.List.{length-append}
 use Rattle.std.proofs.Math.Seq.{take-append_seam, drop-append_seam}
 use Rattle.oas_ring.specs.declared.point.Point.{Point}
-use Rattle.oas_layout.specs.Grid.{is_coordinate, is_grid_point}
+use Rattle.oas_elements.specs.Grid.{is_coordinate, is_grid_point}
 use Rattle.std.proofs.lemmas.Int.{ints}
 use Rattle.oas_keys.specs.Numbers.{signed_key, IsStep}
 use Rattle.oas_keys.specs.Keys.{text_key, points_key}

@@ -3,7 +3,7 @@ use Rattle.std.proofs.Common.{◌≡◌, ℕ, ◌+◌, ◌≤◌, true, List, []
 use Rattle.std.proofs.lemmas.List.{append-nil}
 use Rattle.oas_ring.specs.declared.point.Point.{Point}
 use Rattle.oas_ring.specs.Points.{origin}
-use Rattle.oas_layout.specs.Grid.{is_grid_point}
+use Rattle.oas_elements.specs.Grid.{is_grid_point}
 use Rattle.oas_keys.specs.declared.points.SpelledPoints.{SpelledPoints}
 use Rattle.oas_keys.specs.Keys.{points_key}
 use Rattle.oas_keys.specs.Laws.FieldLaws.{AreWithin}

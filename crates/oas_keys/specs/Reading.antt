@@ -1,10 +1,10 @@
 -- What bytes encode, read from the start.
 use Rattle.std.specs.Prelude.{◌≡◌, ℕ, ◌+◌, ◌-◌, ◌*◌, ◌^◌, ◌<◌, nat_lt, nat_eq, cond, Bool, true, false, ℤ, List, [], ◌∷◌, ◌++◌, Option, None, Some}
 use Rattle.oas_ring.specs.declared.point.Point.{Point}
-use Rattle.oas_layout.specs.declared.element.Element.{Element}
-use Rattle.oas_layout.specs.declared.element.Element.TheVariants.{Placement, Text, Rectangle, Polygon, Path, Circle}
-use Rattle.oas_layout.specs.Grid.{is_grid_point}
-use Rattle.oas_layout.specs.Sound.{IsSound}
+use Rattle.oas_elements.specs.declared.element.Element.{Element}
+use Rattle.oas_elements.specs.declared.element.Element.TheVariants.{Placement, Text, Rectangle, Polygon, Path, Circle}
+use Rattle.oas_elements.specs.Grid.{is_grid_point}
+use Rattle.oas_elements.specs.Sound.{IsSound}
 use Rattle.oas_keys.specs.declared.points.SpelledPoints.{SpelledPoints}
 use Rattle.oas_keys.specs.declared.spelled.SpelledElement.{SpelledElement}
 use Rattle.oas_keys.specs.declared.spelled.SpelledElement.TheVariants as spelled

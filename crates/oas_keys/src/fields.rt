@@ -2,12 +2,12 @@
 
 ghost use Rattle.std.specs.Prelude.{◌≡◌, ◌+◌, ◌*◌, ◌≤◌, ◌++◌, ◌∷◌, [], true, length, vec_len, vec_capacity};
 ghost use Rattle.std.specs.List.{list_all};
-ghost use Rattle.oas_layout.specs.Grid.{is_grid_point};
+ghost use Rattle.oas_elements.specs.Grid.{is_grid_point};
 ghost use Rattle.oas_ring.specs.Points.{origin};
 ghost use Rattle.oas_keys.specs.Keys.{text_key, step_key, points_key, turned_key};
 
 use crate::numbers::put_signed_pair;
-use oas_layout::Turns;
+use oas_elements::Turns;
 use oas_ring::Point;
 
 /// Puts a string's bytes and their end.

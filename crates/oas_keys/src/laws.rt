@@ -3,9 +3,9 @@
 ghost use Rattle.std.specs.Prelude.{◌≡◌, ◌↔◌, ◌<◌, ◌^◌, ◌++◌, ℕ, ℤ, List};
 ghost use Rattle.std.specs.Ordering.{nat_cmp, int_cmp};
 ghost use Rattle.std.specs.Cmp.Lexicographic.{slice_cmp};
-ghost use Rattle.oas_layout.specs.declared.element.Element.{Element};
-ghost use Rattle.oas_layout.specs.Element.{element_cmp};
-ghost use Rattle.oas_layout.specs.Sound.{IsSound};
+ghost use Rattle.oas_elements.specs.declared.element.Element.{Element};
+ghost use Rattle.oas_elements.specs.Element.{element_cmp};
+ghost use Rattle.oas_elements.specs.Sound.{IsSound};
 ghost use Rattle.oas_keys.specs.Numbers.{unsigned_key, signed_key, IsStep};
 ghost use Rattle.oas_keys.specs.Keys.{key_of};
 ghost use Rattle.oas_keys.specs.Laws.NumberLaws.{Decided};

@@ -1,13 +1,13 @@
 //! The keys of placements and texts, put from their fields.
 
 ghost use Rattle.std.specs.Prelude.{◌≡◌, ◌+◌, ◌≤◌, ◌++◌, true, OnOk, OnErr, vec_len, vec_capacity};
-ghost use Rattle.oas_layout.specs.declared.element.Element.TheVariants.{Placement, Text};
-ghost use Rattle.oas_layout.specs.Grid.{fits_grid};
+ghost use Rattle.oas_elements.specs.declared.element.Element.TheVariants.{Placement, Text};
+ghost use Rattle.oas_elements.specs.Grid.{fits_grid};
 ghost use Rattle.oas_keys.specs.Keys.{key_of, fields_key, room_of};
 
 use crate::fields::{put_text, turned};
 use crate::numbers::{put_signed_pair, put_unsigned_pair};
-use oas_layout::Turns;
+use oas_elements::Turns;
 use oas_num::{Label, Name};
 use std::alloc::AllocError;
 

@@ -2,16 +2,16 @@
 
 ghost use Rattle.std.specs.Prelude.{◌≡◌, ◌<◌, ◌+◌, ◌*◌, ◌++◌, ◌^◌, true, Bool, ℕ, ℤ, List, length, IfSome};
 ghost use Rattle.oas_ring.specs.declared.point.Point.{Point as OnePoint};
-ghost use Rattle.oas_layout.specs.declared.element.Turns.{Turns as SomeTurns};
-ghost use Rattle.oas_layout.specs.Element.{turn_count};
-ghost use Rattle.oas_layout.specs.Grid.{is_grid_point};
+ghost use Rattle.oas_elements.specs.declared.element.Turns.{Turns as SomeTurns};
+ghost use Rattle.oas_elements.specs.Element.{turn_count};
+ghost use Rattle.oas_elements.specs.Grid.{is_grid_point};
 ghost use Rattle.oas_keys.specs.Numbers.{unsigned_key, signed_key, IsStep};
 ghost use Rattle.oas_keys.specs.Keys.{text_key, turned_key, points_key, flip_count};
 ghost use Rattle.oas_keys.specs.Laws.FieldLaws.{NoZero, AreWithin};
 ghost use Rattle.oas_keys.specs.Reading.{text_len, NextPoint, PassedPoint};
 
 use crate::cursor::Cursor;
-use oas_layout::Turns;
+use oas_elements::Turns;
 use oas_ring::Point;
 
 /// Turns, and the flip before them.

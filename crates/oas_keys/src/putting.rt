@@ -1,14 +1,14 @@
 //! An element's key.
 
 ghost use Rattle.std.specs.Prelude.{◌≡◌, ◌+◌, ◌<◌, ◌≤◌, ◌⊎◌, ◌++◌, OnOk, OnErr, vec_len, vec_capacity};
-ghost use Rattle.oas_layout.specs.Element.{kind};
-ghost use Rattle.oas_layout.specs.Sound.{IsSound};
+ghost use Rattle.oas_elements.specs.Element.{kind};
+ghost use Rattle.oas_elements.specs.Sound.{IsSound};
 ghost use Rattle.oas_keys.specs.Keys.{key_of, fields_key, room_of};
 
 use crate::fields::put_points;
 use crate::named::{put_placement_key, put_text_key};
 use crate::numbers::{put_signed_pair, put_unsigned, put_unsigned_pair};
-use oas_layout::Element;
+use oas_elements::Element;
 use std::alloc::AllocError;
 
 /// Reserves room for the key of an element that is no placement and no text.

@@ -2,10 +2,10 @@
 
 ghost use Rattle.std.specs.Prelude.{◌≡◌, Bool, ℕ, ℤ, List};
 ghost use Rattle.oas_ring.specs.declared.point.Point.{Point as OnePoint};
-ghost use Rattle.oas_layout.specs.declared.element.Turns.{Turns as SomeTurns};
-ghost use Rattle.oas_layout.specs.declared.element.Element.{Element as OneElement};
-ghost use Rattle.oas_layout.specs.declared.element.Element.TheVariants.{Placement, Text, Rectangle, Polygon, Path, Circle};
-ghost use Rattle.oas_layout.specs.Sound.{IsSound};
+ghost use Rattle.oas_elements.specs.declared.element.Turns.{Turns as SomeTurns};
+ghost use Rattle.oas_elements.specs.declared.element.Element.{Element as OneElement};
+ghost use Rattle.oas_elements.specs.declared.element.Element.TheVariants.{Placement, Text, Rectangle, Polygon, Path, Circle};
+ghost use Rattle.oas_elements.specs.Sound.{IsSound};
 ghost use Rattle.oas_keys.specs.Keys.{key_of};
 ghost use Rattle.oas_keys.specs.Reading.{HasFields, Spells};
 

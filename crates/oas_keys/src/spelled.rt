@@ -1,7 +1,7 @@
 //! An element as its key spells it.
 
 use crate::points::SpelledPoints;
-use oas_layout::Turns;
+use oas_elements::Turns;
 
 /// An element as its key spells it: names and strings are those bytes of the key, and points are read from it one by one, so
 /// nothing is allocated. Lengths and places are in grid steps.

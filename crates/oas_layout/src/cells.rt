@@ -1,70 +1,58 @@
-//! The cells of a layout, in order.
+//! The cells of a layout, one by one.
 
-ghost use Rattle.std.specs.Prelude.{◌≡◌, length};
+ghost use Rattle.std.specs.Prelude.{◌≡◌, List, length};
 ghost use Rattle.std.specs.Iterator.{at_most};
 ghost use Rattle.std.specs.Map.Iter.{TakesFirst};
+ghost use Rattle.oas_elements.specs.Contents.{Cell};
+ghost use Rattle.oas_layout.specs.Keyed.{keyed_cells};
+ghost use Rattle.oas_layout.specs.Held.{AreSoundCells, AreLightCells, HeldCells, cells_held, name_and_elements};
+ghost use Rattle.oas_layout.specs.Laws.HeldLaws.{held_cells_prop};
 
-use crate::bag::Bag;
 use crate::elements::Elements;
-use indexmap::map::Iter;
 use oas_num::Name;
+use oas_runs::Run;
+use std::collections::btree_map::Iter;
 use std::marker::Model;
 
-/// A cell of a layout, seen as its name and its elements, each with how often it is there.
-#[derive(Drop)]
-pub struct Cell<'a> {
-    name: &'a Name,
-    bag: &'a Bag,
-}
-
-impl<'a> Model for Cell<'a> {
-    ghost use Rattle.oas_layout.specs.Contents as contents;
-
-    ghost Value = { contents.Cell };
-
-    ghost view = { λ a. (a.name.now, a.bag.now) };
-}
-
-impl<'a> Cell<'a> {
-    /// Its name.
-    pub fn name(&self) -> &'a Name
-        ensures { result.now ≡ self.now.0 }
-    {
-        self.name
-    }
-
-    /// Its distinct elements ascending, each with how often it is there.
-    pub fn elements(&self) -> Elements<'a>
-        ensures { result ≡ self.now.1 }
-    {
-        self.bag.elements()
-    }
-}
-
-/// The cells by ascending names, seen as the list of those to come.
+/// Cells by ascending names, each with its elements; seen as the list of those to come.
 #[derive(Drop)]
 pub struct Cells<'a> {
-    pub(crate) pairs: Iter<'a, Name, Bag>,
+    runs: Iter<'a, Name, Run>,
+    ghost held: { HeldCells runs } by { held_cells_prop runs },
 }
 
 impl<'a> Model for Cells<'a> {
     ghost use Rattle.std.specs.Prelude.{List};
-    ghost use Rattle.oas_layout.specs.Contents as contents;
+    ghost use Rattle.oas_elements.specs.Contents.{Cell};
+    ghost use Rattle.oas_layout.specs.Held.{AreLightCells, cells_held};
 
-    ghost Value = { List contents.Cell };
+    ghost Value = { List Cell };
 
-    ghost view = { λ a. a.pairs };
+    ghost view = { λ a. cells_held a.held };
+
+    ghost invariant = { λ a. AreLightCells (cells_held a.held) };
+}
+
+impl<'a> Cells<'a> {
+    /// The cells whose runs these are.
+    pub(crate) fn of(runs: Iter<'a, Name, Run>) -> Cells<'a>
+        requires held { HeldCells runs }
+        requires light { (h : HeldCells runs) → AreLightCells (cells_held h) }
+        ensures { (cs : List Cell) → AreSoundCells cs → runs.entry ≡ keyed_cells cs → result ≡ cs }
+    {
+        Cells { runs }
+    }
 }
 
 impl<'a> Iterator for Cells<'a> {
-    type Item = Cell<'a>;
+    type Item = (&'a Name, Elements<'a>);
 
-    ghost next_gives = { TakesFirst (λ cell. cell) };
+    ghost next_gives = { TakesFirst name_and_elements };
 
     ghost remaining = { λ s. at_most (length s) };
 
-    fn next(&mut self) -> Option<Cell<'a>> {
-        let (name, bag) = self.pairs.next()?;
-        Some(Cell { name, bag })
+    fn next(&mut self) -> Option<(&'a Name, Elements<'a>)> {
+        let (name, run) = self.runs.next()?;
+        Some((name, Elements::of(run.entries())))
     }
 }

@@ -1,93 +1,79 @@
-//! A layout: a unit, and for each cell name a multiset of elements.
+//! A layout as runs of keys, in little more memory than its distinct elements take: read from a source, or put together in a
+//! draft.
 //!
 //! What this crate promises to the crates above it:
 //!
-//! - An [`Element`] is one of six kinds, with a total order in which no two tie (`element_cmp`, specs/Element.antt). The
-//!   definitions write its fields by position; the contracts of `Element::circle` and its like say which field is which.
-//! - Two elements are the same (`SameElement`, specs/Same.antt) where kind and fields are equal, with two exceptions. A
-//!   polygon is a ring: it may begin anywhere and run in either direction. And under [`Profile::Two`] a polygon that goes
-//!   round a rectangle is that rectangle. Each element has one form in which it is kept (`normal`), and two elements are the
-//!   same exactly if their kept forms are equal.
-//! - A [`Draft`] takes cells and elements. It fails exactly where `cell_refusal` and `refusal` (specs/Contents.antt) say so,
-//!   with the first reason that they give, or else out of memory. A failure changes nothing and hands back what was given.
-//!   Afterwards it holds `with_cell` or `added` of what it held before. [`Limits`] apply to what was given: under profile two
-//!   a rectangle that was given as a polygon weighs as that polygon.
-//! - [`PlainElements`] holds elements that every profile keeps unchanged, for a cell whose name need not be known yet.
-//!   [`Draft::add_plain`] takes them as a whole, without searching for the place of any (`with_plain`, specs/Plain.antt).
-//! - A [`Layout`] gives its cells by ascending names, and for each cell its distinct elements strictly ascending, no two the
-//!   same, each in its kept form and with its count (`IsBag`, specs/Bag.antt). Equal elements are held once, so memory grows
-//!   only with distinct elements. No call on a layout allocates.
-//! - `IsLayout` (specs/Contents.antt) holds for every layout, however its draft was filled, as [`Layout::cells`] says: its
-//!   elements have their points, are within the grid, and have fields that a file can spell.
-//! - Two layouts are the same (`SameLayout`, specs/Meaning.antt) if they have one unit, the same cell names, and in each cell
-//!   the same count of each element. The definition uses no kept form and no order. [`Layout::same`] compares what is held,
-//!   and returns exactly that.
-//! - [`laws`] says, from the definitions alone, how counts, kept forms and sameness are related.
+//! - A [`Layout`] holds the keys of a layout (oas_keys, oas_run_store): its cells by ascending names, and of each the run of its
+//!   elements' keys, ascending, each beside its count. Contracts see it as its `Contents` (oas_elements, specs/Contents.antt), and
+//!   every layout `IsLayout`.
+//! - [`Cells`], [`Elements`] and [`KeyedElement`] are its cells and elements, one by one. An element is a key that is seen
+//!   as its element: it is compared by its bytes, and [`show`] gives its fields, of which a name, a string or points are those of the
+//!   key ([`ShownElement`], [`ShownPoints`]). Nothing is copied, but by [`KeyedElement::to_element`]. Whatever a caller has taken of
+//!   [`Elements`], those left are sound and weigh no more than a layout may ([`Elements::fits`]).
+//! - [`Layout::count`] and [`Layout::weight`] go through all distinct elements; [`Layout::same`] compares bytes alone.
+//! - [`read_layout`] gives the layout of what a source gives, or says where and why it is refused (`ReadsLayout` of oas_file).
+//! - [`finish_layout`] is its last step, for a caller that does more with each record: from a reader to the layout of the records that
+//!   it took (`IsLayoutOf`, specs/LayoutOf.antt), or to what END is refused for.
+//! - A [`Draft`] takes cells and elements one by one, within limits, and is sealed to a layout of them. It hands back what it refuses
+//!   ([`Refused`]), and is then unchanged.
+//!
+//! Whether an allocation succeeds is outside every contract: what allocates may return `Why::Memory`.
 //!
 //! # How it is built
 //!
-//! | src/ | What |
-//! |---|---|
-//! | element.rt | the six kinds of element, quarter turns, weight |
-//! | kinds.rt | elements by the names of their fields: which field is where in the definitions |
-//! | grid.rt | the grid, and which elements are within it |
-//! | kept.rt | the form in which a profile keeps an element |
-//! | profile.rt, limits.rt | profiles; limits |
-//! | bag.rt, elements.rt | the elements of one cell with their counts, and iteration over them |
-//! | cells.rt | the cells of a layout, one after another |
-//! | plain.rt | elements of a cell without a name yet, which a draft takes as a whole |
-//! | draft.rt, refused.rt, layout.rt | layouts under construction, what they refuse, and finished ones |
-//! | sound.rt | what fields can hold, read once for the invariant |
-//! | laws.rt | the laws, from the definitions alone |
-//!
-//! `oas_bench layouts` adds a million elements to a draft; `bench/layouts` runs it beside the plain Rust program
-//! bench/layouts.rs.
-//!
-//! | specs/ | What |
-//! |---|---|
-//! | Element, ElementLaws | the order, and that it is total and exact |
-//! | Weight, Grid, Limits | numbers and tests |
-//! | Same, SameLaws | `SameElement`, its test, the kept form; same exactly if the kept forms are equal |
-//! | Sound | what every element is: its points, the grid, what its fields hold |
-//! | Bag, Ascending | counts beside elements; lists in order |
-//! | Meaning, Contents | meanings and their sameness; what drafts and layouts hold, and what they refuse |
-//! | Refused | what a draft refuses, in a line |
-//! | Plain | elements that every profile keeps unchanged, and the draft that takes a cell of them |
-//! | Laws | the statements of `laws` |
-//!
-//! How the proof goes. A cell is a `Bag`, an ordered map whose value is plain data: the ascending list of elements and
-//! counts. `put_more` (n more of a key, in its place) is a recursion of its own. So for every weight g the sum of g over what
-//! is held grows by n * g of the key, whatever the order; length, weight and count are three uses of it. Order matters in one
-//! place only: the map's insertion is `put_more`. Everything about counts is proved once over any key type, order and test of
-//! sameness (proofs/Counting.antt): where the test and the order agree on kept keys, equal counts make equal lists, of pairs
-//! and of single keys. Four facts connect this with elements: the order is total; no two elements tie; the kept form of a
-//! kept form is itself; the test of sameness is equality of kept forms. Names are sorted by `IndexMap::sort_keys`, and equal
-//! look-ups in sorted lists make equal lists; so `same` may compare the maps cell by cell.
+//! - src/reading.rt is a reader with the stores of oas_cells. src/finishing.rt takes what that reader hands over, has it accepted, and
+//!   puts the run of each cell among those by name, from the last cell on, so that a cell's store is freed before the next run is made.
+//!   The room of the freed cells is given back each time when it is a sixteenth of all (`fit`).
+//! - specs/Held.antt: keys are of one list of elements at most (specs/Laws/HeldLaws.antt), and what is left of a key has one list
+//!   of points at most (PointsLaws.antt). So a type that holds keys has a ghost field with that list, which is nothing at run
+//!   time, and is seen as it; proofs/HeldLemmas.antt has what is taken of both.
+//! - specs/Counting.antt: cells put in order, with their elements counted (`counted_cells`). They are those of `in_order` of
+//!   oas_form (proofs/OrderLemmas.antt), which are proved there to be the same layout and to keep its limits.
+//! - proofs/KeyedLemmas.antt has the step from keys to elements. A run that means some elements (`MeansElements` of
+//!   oas_cells) has the sums of their keys, so it is their tally (`run_is_tally` of oas_run_store); and since keys are ordered
+//!   as elements, that tally is the keys of the elements, counted (`run_is`).
+//! - Whatever a reader took, there is something that its cells of keys may have been drawn from (`IsCompact` of oas_cells), and it is
+//!   sound. So what END accepts can be made a layout, whichever records were taken (`layout`, proofs/FinishLemmas.antt).
+//! - src/sameness.rt: `Layout::same` compares units, names and runs, entry by entry (`==` of a `Run` of oas_runs),
+//!   and reads no element. Elements with equal keys are equal, so cells with equal runs are equal
+//!   (proofs/SamenessLemmas.antt), and oas_elements proves that these are the same layout.
+//! - src/draft_cell.rt holds the elements of a cell of a draft in the store that a reader's cell has (`ElementStore` of oas_cells).
+//!   src/sealing.rt puts their runs by name.
 #![tactic(auto)]
 
-mod bag;
 mod cells;
+mod copying;
 mod draft;
+mod draft_cell;
 mod element;
 mod elements;
-mod grid;
-mod kept;
-mod kinds;
-pub mod laws;
+mod finishing;
 mod layout;
-mod limits;
-mod plain;
-mod profile;
+mod points;
+mod reading;
 mod refused;
-mod sound;
+mod sameness;
+mod sealing;
+mod showing;
+mod shown;
+mod totals;
 
-pub use cells::{Cell, Cells};
+// The crates below, for those above.
+pub use cells::Cells;
 pub use draft::Draft;
-pub use element::{Element, Turns};
+pub use element::KeyedElement;
 pub use elements::Elements;
-pub use kinds::{Extensions, Layer};
+pub use finishing::finish_layout;
 pub use layout::Layout;
-pub use limits::Limits;
-pub use plain::PlainElements;
-pub use profile::Profile;
+pub use oas_cells::{ByProfileOne, ByProfileTwo, CompactCell, KeptBy};
+pub use oas_form::{
+    CellStore, Comparer, CountedCell, FormJudge, Reader, file_laws, find_end_of_input, is_end,
+    is_head, laws as form_laws, put_bytes, put_circle, put_coordinate, put_end, put_head,
+    put_number, put_opening, put_place, put_placement, put_rectangle, put_step, put_text,
+    take_record,
+};
+pub use points::ShownPoints;
+pub use reading::read_layout;
 pub use refused::Refused;
+pub use showing::show;
+pub use shown::ShownElement;

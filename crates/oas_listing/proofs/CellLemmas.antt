@@ -1,23 +1,12 @@
--- Putting elements that are there more than once, and cells.
-use Rattle.std.proofs.Common.{◌≡◌, ℕ, zero, suc, ◌+◌, ◌<◌, ◌≤◌, List, [], ◌∷◌, ◌++◌, length, drop, get_or, flat_map, replicate, Some, slice_get, refl, sym, ap, subst, ◌∙◌, arith}
+-- Putting elements, each as often as it is there, and cells.
+use Rattle.std.proofs.Common.{◌≡◌, ℕ, List, [], ◌∷◌, ◌++◌, flat_map, replicate, sym, subst}
 use Rattle.std.proofs.lemmas.Grind.{flat_map-append}
-use Rattle.std.proofs.lemmas.Option.{get_or_from_slice_get}
 use Rattle.oas_num.specs.Writing.{Puts, PutsPrefix}
-use Rattle.oas_layout.specs.declared.element.Element.{Element}
-use Rattle.oas_layout.specs.Bag.{items}
-use Rattle.oas_layout.specs.Contents.{Cell, names, bags, expanded}
+use Rattle.oas_num.proofs.PuttingLemmas.{PutSoFar, begins, fails_at, all_put, ◌▸◌}
+use Rattle.oas_elements.specs.declared.element.Element.{Element}
+use Rattle.oas_elements.specs.Bag.{items}
+use Rattle.oas_elements.specs.Contents.{Cell, expanded}
 use Rattle.oas_listing.specs.Listing.{element_line, cell_lines}
-use Rattle.oas_num.proofs.PuttingLemmas.{PutSoFar, fails_at, item_put, item_fails, items_put, ◌▸◌}
-
--- a cell with each element as often as it is there
-cell_at : (cs : List Cell) (i : ℕ) (name : List ℕ) (es : List (Element × ℕ)) → get_or (expanded cs) i (name, items es) ≡ (get_or (names cs) i name, items (get_or (bags cs) i es))
-cell_at [] i name es = refl
-cell_at (c ∷ cs) zero name es = refl
-cell_at (c ∷ cs) (suc i) name es = cell_at cs i name es
-
-length-expanded : (cs : List Cell) → length (expanded cs) ≡ length cs
-length-expanded [] = refl
-length-expanded (c ∷ cs) = ap suc (length-expanded cs)
 
 module _ {K : Type 0} {given : K → List ℕ → K → Type 0} {failures : K → ℕ} {whole : List ℕ} {old mid : K} where
   -- ---- copies of an element
@@ -32,21 +21,43 @@ module _ {K : Type 0} {given : K → List ℕ → K → Type 0} {failures : K �
     pub copies_fail : {new : K} → PutsPrefix given failures mid (flat_map element_line (replicate n e)) new → PutsPrefix given failures old whole new
     copies_fail q = fails_at _ copies_left q
 
+module _ {K : Type 0} {given : K → List ℕ → K → Type 0} {failures : K → ℕ} where
+  -- ---- elements
+
+  pub elements_begin : (all left : List (Element × ℕ)) (s : K) → left ≡ all → PutSoFar given failures (flat_map element_line (items all)) (flat_map element_line (items left)) s s
+  elements_begin all left s is =
+      subst (λ (es : List (Element × ℕ)). PutSoFar given failures (flat_map element_line (items all)) (flat_map element_line (items es)) s s) (sym is) (begins (flat_map element_line (items all)) s)
+
+  pub elements_on : {old now : K} (all left after : List (Element × ℕ)) (e : Element × ℕ) → left ≡ e ∷ after
+      → PutSoFar given failures (flat_map element_line (items all)) (flat_map element_line (items left)) old now
+      → PutSoFar given failures (flat_map element_line (items all)) (flat_map element_line (items (e ∷ after))) old now
+  elements_on {old = old} {now = now} all left after e is s =
+      subst (λ (es : List (Element × ℕ)). PutSoFar given failures (flat_map element_line (items all)) (flat_map element_line (items es)) old now) is s
+
+  pub elements_end : {old now : K} (all left : List (Element × ℕ)) → PutSoFar given failures (flat_map element_line (items all)) (flat_map element_line (items left)) old now → left ≡ []
+      → Puts given failures old (flat_map element_line (items all)) now
+  elements_end {old = old} {now = now} all left s none =
+      all_put (subst (λ (es : List (Element × ℕ)). PutSoFar given failures (flat_map element_line (items all)) (flat_map element_line (items es)) old now) none s)
+
   -- ---- cells
 
-  module _ (cs : List Cell) (i : ℕ) (name : List ℕ) (es : List (Element × ℕ)) (lt : i < length cs) (named : slice_get (names cs) i ≡ Some name)
-      (filled : slice_get (bags cs) i ≡ Some es) (p : PutSoFar given failures whole (flat_map cell_lines (drop i (expanded cs))) old mid) where
-    here : get_or (expanded cs) i (name, items es) ≡ (name, items es)
-    here = cell_at cs i name es ∙ (λ j. (get_or_from_slice_get (names cs) i name name named j, items (get_or_from_slice_get (bags cs) i es es filled j)))
+  pub cells_begin : (all left : List Cell) (s : K) → left ≡ all → PutSoFar given failures (flat_map cell_lines (expanded all)) (flat_map cell_lines (expanded left)) s s
+  cells_begin all left s is =
+      subst (λ (cs : List Cell). PutSoFar given failures (flat_map cell_lines (expanded all)) (flat_map cell_lines (expanded cs)) s s) (sym is) (begins (flat_map cell_lines (expanded all)) s)
 
-    below : i < length (expanded cs)
-    below = omega (arith, lt, length-expanded cs)
+  module _ {old mid : K} (all before after : List Cell) (c : Cell) (is : before ≡ c ∷ after)
+      (left : PutSoFar given failures (flat_map cell_lines (expanded all)) (flat_map cell_lines (expanded before)) old mid) where
+    split : PutSoFar given failures (flat_map cell_lines (expanded all)) (cell_lines (c.0, items c.1) ++ flat_map cell_lines (expanded after)) old mid
+    split = subst (λ (cs : List Cell). PutSoFar given failures (flat_map cell_lines (expanded all)) (flat_map cell_lines (expanded cs)) old mid) is left
 
-    pub cell_put : {new : K} → Puts given failures mid (cell_lines (name, items es)) new → PutSoFar given failures whole (flat_map cell_lines (drop (i + 1) (expanded cs))) old new
-    cell_put {new} q = item_put cell_lines (expanded cs) i (name, items es) below p (subst (λ (c : List ℕ × List Element). Puts given failures mid (cell_lines c) new) (sym here) q)
+    pub cell_fails : {new : K} → PutsPrefix given failures mid (cell_lines (c.0, items c.1)) new → PutsPrefix given failures old (flat_map cell_lines (expanded all)) new
+    cell_fails q = fails_at _ split q
 
-    pub cell_fails : {new : K} → PutsPrefix given failures mid (cell_lines (name, items es)) new → PutsPrefix given failures old whole new
-    cell_fails {new} q = item_fails cell_lines (expanded cs) i (name, items es) below p (subst (λ (c : List ℕ × List Element). PutsPrefix given failures mid (cell_lines c) new) (sym here) q)
+    pub cell_put : {new : K} → Puts given failures mid (cell_lines (c.0, items c.1)) new
+        → PutSoFar given failures (flat_map cell_lines (expanded all)) (flat_map cell_lines (expanded after)) old new
+    cell_put q = split ▸ q
 
-  pub cells_put : (cs : List Cell) (i : ℕ) → length cs ≤ i → PutSoFar given failures whole (flat_map cell_lines (drop i (expanded cs))) old mid → Puts given failures old whole mid
-  cells_put cs i le p = items_put cell_lines (expanded cs) i (omega (arith, le, length-expanded cs)) p
+  pub cells_end : {old now : K} (all left : List Cell) → PutSoFar given failures (flat_map cell_lines (expanded all)) (flat_map cell_lines (expanded left)) old now → left ≡ []
+      → Puts given failures old (flat_map cell_lines (expanded all)) now
+  cells_end {old = old} {now = now} all left s none =
+      all_put (subst (λ (cs : List Cell). PutSoFar given failures (flat_map cell_lines (expanded all)) (flat_map cell_lines (expanded cs)) old now) none s)

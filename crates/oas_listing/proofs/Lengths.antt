@@ -5,12 +5,12 @@ use Rattle.std.specs.Prelude.{ℤ, pos, negsuc, codes}
 use Rattle.std.specs.Fmt.{digits, digits_onto, digit_glyph, signed_decimal}
 use Rattle.std.proofs.lemmas.List.Sums.{sum_by-cons}
 use Rattle.oas_ring.specs.declared.point.Point.{Point}
-use Rattle.oas_layout.specs.declared.element.Element.{Element}
-use Rattle.oas_layout.specs.declared.element.Element.TheVariants.{Placement, Text, Rectangle, Polygon, Path, Circle}
-use Rattle.oas_layout.specs.Element.{turn_count}
-use Rattle.oas_layout.specs.Weight.{weight_of}
-use Rattle.oas_layout.specs.Meaning.{Meaning, cells_weight}
-use Rattle.oas_layout.specs.Contents.{Contents, meaning_of, IsLayout}
+use Rattle.oas_elements.specs.declared.element.Element.{Element}
+use Rattle.oas_elements.specs.declared.element.Element.TheVariants.{Placement, Text, Rectangle, Polygon, Path, Circle}
+use Rattle.oas_elements.specs.Element.{turn_count}
+use Rattle.oas_elements.specs.Weight.{weight_of}
+use Rattle.oas_elements.specs.Meaning.{Meaning, cells_weight}
+use Rattle.oas_elements.specs.Contents.{Contents, meaning_of, IsLayout}
 use Rattle.oas_listing.specs.Lines.{behind_spaces, spaced, line}
 use Rattle.oas_listing.specs.Listing.{pair, fraction, flip_count, element_line, cell_lines, listing}
 

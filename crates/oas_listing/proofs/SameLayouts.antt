@@ -1,7 +1,7 @@
 -- Layouts that are the same have equal cells, and so one listing.
 use Rattle.std.proofs.Common.{◌≡◌}
-use Rattle.oas_layout.specs.Contents.{expanded}
-use Rattle.oas_layout.proofs.SameLemmas.{cells_from_same}
+use Rattle.oas_elements.specs.Contents.{expanded}
+use Rattle.oas_elements.proofs.SameLemmas.{cells_from_same}
 use Rattle.oas_listing.specs.Listing.{listing}
 use Rattle.oas_listing.specs.Laws.ListingLaws.{OneListing}
 

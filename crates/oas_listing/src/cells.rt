@@ -1,19 +1,19 @@
-//! The lines of cells, and the listing.
+//! The lines of the unit and of cells.
 
-ghost use Rattle.std.specs.Prelude.{◌+◌, ◌*◌, ◌^◌, ◌≤◌, [], ◌∷◌, length, flat_map, codes};
+ghost use Rattle.std.specs.Prelude.{[], ◌∷◌, codes, flat_map, replicate};
 ghost use Rattle.oas_num.specs.Writing.{Writes};
-ghost use Rattle.oas_layout.specs.Bag.{items};
-ghost use Rattle.oas_layout.specs.Contents.{meaning_of};
+ghost use Rattle.oas_elements.specs.Bag.{items};
+ghost use Rattle.oas_elements.specs.Contents.{expanded};
 ghost use Rattle.oas_listing.specs.Lines.{line};
-ghost use Rattle.oas_listing.specs.Listing.{fraction, element_line, cell_lines, listing};
+ghost use Rattle.oas_listing.specs.Listing.{fraction, element_line, cell_lines};
 
-use crate::elements::put_copies;
+use crate::elements::put_element;
 use crate::fields::put_field;
 use itoa::Buffer;
-use oas_layout::{Elements, Layout};
+use oas_layout::{Cells, Elements, KeyedElement, show};
 use oas_num::{Fraction, Sink, SinkFault};
 
-/// Puts the line of the unit.
+/// Puts the line of the unit, with its end.
 pub fn put_unit<K: Sink>(sink: &mut K, unit: Fraction) -> Result<(), SinkFault>
     ensures { Writes K.given K.failures sink.old (line (codes "unit" ∷ fraction unit ∷ [])) result sink.new }
 {
@@ -24,7 +24,7 @@ pub fn put_unit<K: Sink>(sink: &mut K, unit: Fraction) -> Result<(), SinkFault>
     sink.put(b'\n')
 }
 
-/// Puts the line of a cell's name.
+/// Puts the line of a cell's name, with its end.
 pub fn put_name<K: Sink>(sink: &mut K, name: &[u8]) -> Result<(), SinkFault>
     ensures { Writes K.given K.failures sink.old (line (codes "cell" ∷ name.now ∷ [])) result sink.new }
 {
@@ -33,12 +33,26 @@ pub fn put_name<K: Sink>(sink: &mut K, name: &[u8]) -> Result<(), SinkFault>
     sink.put(b'\n')
 }
 
+/// Puts the line of an element this many times.
+fn put_copies<K: Sink>(
+    sink: &mut K,
+    element: &KeyedElement<'_>,
+    times: u64,
+) -> Result<(), SinkFault>
+    ensures { Writes K.given K.failures sink.old (flat_map element_line (replicate times element.now)) result sink.new }
+{
+    for _ in 0..times {
+        put_element(sink, show(element))?;
+    }
+    Ok(())
+}
+
 /// Puts the lines of elements, each as often as it is there.
 fn put_elements<K: Sink>(sink: &mut K, elements: Elements<'_>) -> Result<(), SinkFault>
     ensures { Writes K.given K.failures sink.old (flat_map element_line (items elements.entry)) result sink.new }
 {
-    for (element, count) in elements {
-        put_copies(sink, element, count)?;
+    for (element, times) in elements {
+        put_copies(sink, &element, times)?;
     }
     Ok(())
 }
@@ -51,15 +65,12 @@ fn put_cell<K: Sink>(sink: &mut K, name: &[u8], elements: Elements<'_>) -> Resul
     put_elements(sink, elements)
 }
 
-/// Puts the listing of a layout into a sink. After a fault a prefix of it was put.
-pub fn put_listing<K: Sink>(layout: &Layout, sink: &mut K) -> Result<(), SinkFault>
-    ensures writes { Writes K.given K.failures sink.old (listing (meaning_of layout.now)) result sink.new }
-    ensures short { length (listing (meaning_of layout.now)) ≤ 136 + 512 * 2 ^ 30 }
+/// Puts the lines of cells, one after another.
+pub(crate) fn put_cells<K: Sink>(sink: &mut K, cells: Cells<'_>) -> Result<(), SinkFault>
+    ensures { Writes K.given K.failures sink.old (flat_map cell_lines (expanded cells.entry)) result sink.new }
 {
-    let count = layout.cell_count();
-    put_unit(sink, layout.unit())?;
-    for i in 0..count {
-        put_cell(sink, layout.cell_name(i).as_bytes(), layout.elements(i))?;
+    for (name, elements) in cells {
+        put_cell(sink, name.as_bytes(), elements)?;
     }
     Ok(())
 }

@@ -1,16 +1,17 @@
 //! The lines of elements.
 
-ghost use Rattle.std.specs.Prelude.{◌≡◌, flat_map, replicate};
+ghost use Rattle.std.specs.Prelude.{◌≡◌};
 ghost use Rattle.oas_num.specs.Writing.{Writes};
-ghost use Rattle.oas_layout.specs.Element.{turn_count};
-ghost use Rattle.oas_layout.specs.declared.element.Element.TheVariants.{Placement, Text, Polygon, Path};
+ghost use Rattle.oas_elements.specs.Element.{turn_count};
+ghost use Rattle.oas_elements.specs.declared.element.Element.TheVariants.{Placement, Text, Polygon, Path};
+ghost use Rattle.oas_layout.specs.Shown.{element_of};
 ghost use Rattle.oas_listing.specs.Lines.{spaced};
 ghost use Rattle.oas_listing.specs.Listing.{flip_count, element_fields, element_line};
 
 use crate::fields::{put_field, put_numbers, put_points, put_signed_numbers, put_start};
-use oas_layout::{Element, Turns};
+use oas_elements::Turns;
+use oas_layout::{ShownElement, ShownPoints};
 use oas_num::{Sink, SinkFault};
-use oas_ring::Points;
 
 /// How many quarter turns.
 fn turn_number(turns: Turns) -> u64
@@ -32,7 +33,7 @@ fn flip_number(flip: bool) -> u64
 }
 
 /// Puts the kind of a placement, and its fields.
-pub fn put_placement<K: Sink>(
+fn put_placement<K: Sink>(
     sink: &mut K,
     cell: &[u8],
     x: i64,
@@ -50,7 +51,7 @@ pub fn put_placement<K: Sink>(
 }
 
 /// Puts the kind of a text, and its fields.
-pub fn put_text<K: Sink>(
+fn put_text<K: Sink>(
     sink: &mut K,
     string: &[u8],
     textlayer: u64,
@@ -70,13 +71,13 @@ fn put_polygon<K: Sink>(
     sink: &mut K,
     layer: u64,
     datatype: u64,
-    points: &Points,
+    points: ShownPoints<'_>,
 ) -> Result<(), SinkFault>
     ensures { Writes K.given K.failures sink.old
-        (spaced (element_fields (Polygon layer datatype points.now))) result sink.new }
+        (spaced (element_fields (Polygon layer datatype points.entry))) result sink.new }
 {
     put_start(sink, b"polygon", &[layer, datatype], &[])?;
-    put_points(sink, points.as_slice())
+    put_points(sink, points)
 }
 
 /// Puts the fields of a path.
@@ -87,35 +88,35 @@ fn put_path<K: Sink>(
     half_width: u64,
     start: i64,
     end: i64,
-    points: &Points,
+    points: ShownPoints<'_>,
 ) -> Result<(), SinkFault>
     ensures { Writes K.given K.failures sink.old
-        (spaced (element_fields (Path layer datatype half_width start end points.now))) result sink.new }
+        (spaced (element_fields (Path layer datatype half_width start end points.entry))) result sink.new }
 {
     put_start(sink, b"path", &[layer, datatype, half_width], &[start, end])?;
-    put_points(sink, points.as_slice())
+    put_points(sink, points)
 }
 
 /// Puts the kind of an element, and its fields.
-fn put_fields<K: Sink>(sink: &mut K, element: &Element) -> Result<(), SinkFault>
-    ensures { Writes K.given K.failures sink.old (spaced (element_fields element.now)) result sink.new }
+fn put_fields<K: Sink>(sink: &mut K, element: ShownElement<'_>) -> Result<(), SinkFault>
+    ensures { Writes K.given K.failures sink.old (spaced (element_fields (element_of element.entry))) result sink.new }
 {
     match element {
-        Element::Placement {
+        ShownElement::Placement {
             cell,
             x,
             y,
             turns,
             flip,
-        } => put_placement(sink, cell.as_bytes(), *x, *y, *turns, *flip),
-        Element::Text {
+        } => put_placement(sink, cell, x, y, turns, flip),
+        ShownElement::Text {
             string,
             textlayer,
             texttype,
             x,
             y,
-        } => put_text(sink, string.as_bytes(), *textlayer, *texttype, *x, *y),
-        Element::Rectangle {
+        } => put_text(sink, string, textlayer, texttype, x, y),
+        ShownElement::Rectangle {
             layer,
             datatype,
             width,
@@ -125,51 +126,36 @@ fn put_fields<K: Sink>(sink: &mut K, element: &Element) -> Result<(), SinkFault>
         } => put_start(
             sink,
             b"rectangle",
-            &[*layer, *datatype, *width, *height],
-            &[*x, *y],
+            &[layer, datatype, width, height],
+            &[x, y],
         ),
-        Element::Polygon {
+        ShownElement::Polygon {
             layer,
             datatype,
             points,
-        } => put_polygon(sink, *layer, *datatype, points),
-        Element::Path {
+        } => put_polygon(sink, layer, datatype, points),
+        ShownElement::Path {
             layer,
             datatype,
             half_width,
             start,
             end,
             points,
-        } => put_path(sink, *layer, *datatype, *half_width, *start, *end, points),
-        Element::Circle {
+        } => put_path(sink, layer, datatype, half_width, start, end, points),
+        ShownElement::Circle {
             layer,
             datatype,
             radius,
             x,
             y,
-        } => put_start(sink, b"circle", &[*layer, *datatype, *radius], &[*x, *y]),
+        } => put_start(sink, b"circle", &[layer, datatype, radius], &[x, y]),
     }
 }
 
-/// Puts the line of an element.
-pub fn put_element<K: Sink>(sink: &mut K, element: &Element) -> Result<(), SinkFault>
-    ensures { Writes K.given K.failures sink.old (element_line element.now) result sink.new }
+/// Puts the line of an element, with its end.
+pub fn put_element<K: Sink>(sink: &mut K, element: ShownElement<'_>) -> Result<(), SinkFault>
+    ensures { Writes K.given K.failures sink.old (element_line (element_of element.entry)) result sink.new }
 {
     put_fields(sink, element)?;
     sink.put(b'\n')
-}
-
-/// Puts the line of an element this many times.
-pub(crate) fn put_copies<K: Sink>(
-    sink: &mut K,
-    element: &Element,
-    count: u64,
-) -> Result<(), SinkFault>
-    ensures { Writes K.given K.failures sink.old
-        (flat_map element_line (replicate count element.now)) result sink.new }
-{
-    for _ in 0..count {
-        put_element(sink, element)?;
-    }
-    Ok(())
 }

@@ -7,6 +7,7 @@ ghost use Rattle.oas_listing.specs.Lines.{spaced};
 ghost use Rattle.oas_listing.specs.Listing.{pair};
 
 use itoa::Buffer;
+use oas_layout::ShownPoints;
 use oas_num::{Sink, SinkFault};
 use oas_ring::Point;
 
@@ -39,7 +40,7 @@ pub(crate) fn put_signed_numbers<K: Sink>(sink: &mut K, values: &[i64]) -> Resul
 }
 
 /// Puts the first word of a line, and numbers after it, the unsigned ones first.
-pub fn put_start<K: Sink>(
+pub(crate) fn put_start<K: Sink>(
     sink: &mut K,
     word: &[u8],
     values: &[u64],
@@ -54,8 +55,8 @@ pub fn put_start<K: Sink>(
 }
 
 /// Puts a point after a space.
-pub fn put_point<K: Sink>(sink: &mut K, point: &Point) -> Result<(), SinkFault>
-    ensures { Writes K.given K.failures sink.old (32 ∷ pair point.now) result sink.new }
+fn put_point<K: Sink>(sink: &mut K, point: Point) -> Result<(), SinkFault>
+    ensures { Writes K.given K.failures sink.old (32 ∷ pair point) result sink.new }
 {
     put_field(sink, Buffer::new().format(point.x).as_bytes())?;
     sink.put(b',')?;
@@ -63,8 +64,8 @@ pub fn put_point<K: Sink>(sink: &mut K, point: &Point) -> Result<(), SinkFault>
 }
 
 /// Puts points, each after a space.
-pub(crate) fn put_points<K: Sink>(sink: &mut K, points: &[Point]) -> Result<(), SinkFault>
-    ensures { Writes K.given K.failures sink.old (flat_map (λ p. 32 ∷ pair p) points.now) result sink.new }
+pub(crate) fn put_points<K: Sink>(sink: &mut K, points: ShownPoints<'_>) -> Result<(), SinkFault>
+    ensures { Writes K.given K.failures sink.old (flat_map (λ p. 32 ∷ pair p) points.entry) result sink.new }
 {
     for point in points {
         put_point(sink, point)?;

@@ -19,31 +19,32 @@
 //! What this crate promises to the crates above it: a writer takes exactly the bytes of `listing` (specs/Listing.antt) of the
 //! layout's meaning, and [`write_listing`] returns how many they are (`IsWritten`, oas_num's specs/Written.antt). Or it fails
 //! with [`oas_num::Why::Write`], and then the writer took as many of the first bytes as the refusal's place says
-//! (`IsCutOff`). It allocates nothing. Layouts that are the same have one listing ([`laws`]). [`put_unit`], [`put_name`] and
-//! [`put_element`] put a single line; [`put_placement`], [`put_text`], [`put_start`] and [`put_point`] put the fields of one
-//! that is spelled by bytes.
+//! (`IsCutOff`). [`put_listing`] puts the same bytes into a sink; after a fault a prefix of them was put. Neither allocates.
+//! Layouts that are the same have one listing ([`laws`]). [`put_unit`], [`put_name`] and [`put_element`] put a single line:
+//! the last that of an element as it is shown from its key.
 //!
 //! # How it is built
 //!
-//! oas_listing uses oas_layout, oas_num, oas_ring and the kit's `itoa`, which prints a number into a buffer on the stack.
-//! What it promises to the crates above: `write_listing`, whose clauses are about `listing`, a function of the layout's
-//! meaning; and the law that layouts that are the same have one listing.
+//! oas_listing stands on oas_layout, whose cells, elements and points are each read from the keys as they are asked for, and
+//! uses the kit's `itoa`, which prints a number into a buffer on the stack. The clauses are about `listing`, a function of the
+//! layout's meaning.
 //!
 //! - specs/Lines.antt: fields with one space between neighbours, and a line of them. specs/Listing.antt: the fields of each
 //!   kind of element, and the listing; decimal text is std's `decimal` and `signed_decimal`. oas_num's specs/Written.antt
 //!   says what a writer took.
 //! - src/fields.rt: numbers and points after their spaces. elements.rt: a function for each kind that isn't numbers alone,
-//!   and the line of an element, repeated. cells.rt: the cells and the listing. writing.rt: the outlet.
+//!   and the line of an element. cells.rt: elements, each as often as it is there, and cells. writing.rt: the listing, as
+//!   `Content` of oas_num, which writes it.
 //!
-//! How the proof goes. Each function puts into a `Sink` under the contract `Writes` and counts nothing, since `Outlet::taken`
-//! counts what the writer took. One record, `PutSoFar whole left` (oas_num, proofs/PuttingLemmas.antt), says that a prefix of
+//! How the proof goes. Each function puts into a `Sink` under the contract `Writes` and counts nothing, since
+//! `write_content` counts what the writer took. One record, `PutSoFar whole left` (oas_num, proofs/PuttingLemmas.antt), says that a prefix of
 //! the whole was put and what is left; each exit is one line over it. The loops have it as their invariant, where `left` is
-//! what the items from here on give (`item_put`, `item_fails`). Since `taken` stops at `u64::MAX`, the listing has to be
-//! shorter: it has at most 512 bytes for each unit of weight (proofs/Lengths.antt), and `IsLayout` bounds the weight. That
+//! what the items from here on give (proofs/PointLemmas.antt, CellLemmas.antt). Since that count stops at `u64::MAX`, the listing has to
+//! be shorter: it has at most 512 bytes for each unit of weight (proofs/Lengths.antt), and `IsLayout` bounds the weight. That
 //! needs no range of any number, since std's decimal text has at most 64 digits.
 //!
 //! The law (`one_listing`, proofs/SameLayouts.antt): under each name the counted elements of two layouts that are the same
-//! are equal, by oas_layout's `same_held`. Lists of cells by ascending names are equal if their look-ups are.
+//! are equal, by oas_elements's `same_held`. Lists of cells by ascending names are equal if their look-ups are.
 #![tactic(auto)]
 
 mod cells;
@@ -52,7 +53,14 @@ mod fields;
 pub mod laws;
 mod writing;
 
-pub use cells::{put_listing, put_name, put_unit};
-pub use elements::{put_element, put_placement, put_text};
-pub use fields::{put_point, put_start};
-pub use writing::write_listing;
+// The crates below, for those above.
+pub use cells::{put_name, put_unit};
+pub use elements::put_element;
+pub use oas_layout::{
+    ByProfileOne, ByProfileTwo, CellStore, Cells, CompactCell, Comparer, CountedCell, Draft,
+    Elements, FormJudge, KeptBy, KeyedElement, Layout, Reader, Refused, ShownElement, ShownPoints,
+    file_laws, find_end_of_input, finish_layout, form_laws, is_end, is_head, put_bytes, put_circle,
+    put_coordinate, put_end, put_head, put_number, put_opening, put_place, put_placement,
+    put_rectangle, put_step, put_text, read_layout, show, take_record,
+};
+pub use writing::{put_listing, write_listing};

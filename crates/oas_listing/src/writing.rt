@@ -1,24 +1,40 @@
-//! Writing a listing.
+//! The listing of a layout, put into a sink or written.
 
-ghost use Rattle.std.specs.Prelude.{◌+◌, ◌*◌, ◌^◌, ◌≤◌, length, IfErr, IfOk, OnOk};
-ghost use Rattle.oas_num.specs.Outlets.{IsGiven, IsSent, failures_of};
+ghost use Rattle.std.specs.Prelude.{◌+◌, ◌*◌, ◌^◌, ◌≤◌, length, IfErr, IfOk};
 ghost use Rattle.oas_num.specs.Writing.{Writes};
 ghost use Rattle.oas_num.specs.Written.{IsWritten, IsCutOff};
-ghost use Rattle.oas_layout.specs.Contents.{meaning_of};
+ghost use Rattle.oas_elements.specs.Contents.{meaning_of};
 ghost use Rattle.oas_listing.specs.Listing.{listing};
 
-use crate::cells::put_listing;
+use crate::cells::{put_cells, put_unit};
 use oas_layout::Layout;
-use oas_num::{Device, Outlet, Refusal, SinkFault, Why};
+use oas_num::{Content, Device, Refusal, Sink, SinkFault, write_content};
 
-/// Puts the listing of a layout into an outlet, and sends all of it to the writer.
-fn put_and_close<W: Device>(layout: &Layout, outlet: &mut Outlet<'_, W>) -> Result<(), SinkFault>
-    ensures writes { Writes (IsGiven W.calls) failures_of outlet.old (listing (meaning_of layout.now)) result outlet.new }
-    ensures all { OnOk result (IsSent outlet.new) }
+/// Puts the listing of a layout into a sink. After a fault a prefix of it was put. It allocates nothing.
+pub fn put_listing<K: Sink>(layout: &Layout, sink: &mut K) -> Result<(), SinkFault>
+    ensures writes { Writes K.given K.failures sink.old (listing (meaning_of layout.now)) result sink.new }
     ensures short { length (listing (meaning_of layout.now)) ≤ 136 + 512 * 2 ^ 30 }
 {
-    put_listing(layout, outlet)?;
-    outlet.close()
+    let cells = layout.cells();
+    put_unit(sink, layout.unit())?;
+    put_cells(sink, cells)
+}
+
+/// The listing of a layout, as content.
+#[derive(Drop)]
+struct Listing<'a> {
+    layout: &'a Layout,
+}
+
+impl Content for Listing<'_> {
+    ghost use Rattle.oas_elements.specs.Contents.{meaning_of};
+    ghost use Rattle.oas_listing.specs.Listing.{listing};
+
+    ghost bytes = { λ content. listing (meaning_of content.layout.now) };
+
+    fn put_into<K: Sink>(&self, sink: &mut K) -> Result<(), SinkFault> {
+        put_listing(self.layout, sink)
+    }
 }
 
 /// Writes the listing of a layout, and returns how many bytes it has. It allocates nothing.
@@ -29,12 +45,5 @@ pub fn write_listing<W: Device>(layout: &Layout, writer: &mut W) -> Result<u64, 
     ensures written { IfOk result (IsWritten W.calls writer.old (listing (meaning_of layout.now)) writer.new) }
     ensures refused { IfErr result (IsCutOff W.calls writer.old (listing (meaning_of layout.now)) writer.new) }
 {
-    let mut outlet = Outlet::new(writer);
-    match put_and_close(layout, &mut outlet) {
-        Ok(()) => Ok(outlet.taken()),
-        Err(_) => Err(Refusal {
-            at: outlet.taken(),
-            why: Why::Write,
-        }),
-    }
+    write_content(&Listing { layout }, writer)
 }

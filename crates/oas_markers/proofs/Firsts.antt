@@ -3,7 +3,7 @@ use Rattle.std.proofs.Common.{◌≡◌, ℕ, zero, suc, ◌+◌, ◌<◌, List,
 use Rattle.std.proofs.Common.{length-append, append_assoc, append-nil, refl, sym, ap, ◌∙◌, Result, Ok, Err, arith}
 use Rattle.std.specs.Prelude.{◌-◌, OnOk}
 use Rattle.oas_num.specs.Ratio.{Ratio}
-use Rattle.oas_layout.specs.declared.element.Element.{Element}
+use Rattle.oas_elements.specs.declared.element.Element.{Element}
 use Rattle.oas_difference.specs.Held.{held_changed}
 use Rattle.oas_markers.specs.Markers.{alone, change_item, first_items}
 use Rattle.oas_difference.specs.Microns.{counted_to}

@@ -7,18 +7,18 @@ use Rattle.std.specs.List.{AllByRecursion}
 use Rattle.std.specs.Map.{keys_of}
 use Rattle.std.specs.BTreeMap.{is_at}
 use Rattle.oas_num.specs.Ratio.{Ratio}
-use Rattle.oas_layout.specs.declared.profile.Profile.{Profile}
-use Rattle.oas_layout.specs.declared.element.Element.{Element}
-use Rattle.oas_layout.specs.Bag.{items, IsBag}
-use Rattle.oas_layout.specs.Meaning.{elements_of}
-use Rattle.oas_layout.specs.Contents.{Cell, Contents, expanded, meaning_of, IsCell, IsLayout}
+use Rattle.oas_elements.specs.declared.profile.Profile.{Profile}
+use Rattle.oas_elements.specs.declared.element.Element.{Element}
+use Rattle.oas_elements.specs.Bag.{items, IsBag}
+use Rattle.oas_elements.specs.Meaning.{elements_of}
+use Rattle.oas_elements.specs.Contents.{Cell, Contents, expanded, meaning_of, IsCell, IsLayout}
 use Rattle.oas_difference.specs.Ascending.{ascending}
 use Rattle.oas_difference.specs.Pairs.{found}
 use Rattle.oas_difference.specs.Changed.{changed}
 use Rattle.oas_difference.specs.Choice.{chosen, or_empty}
 use Rattle.oas_difference.specs.Held.{cells_chosen, contents_chosen}
-use Rattle.oas_difference.specs.declared.choice.Choice.{Choice}
-use Rattle.oas_difference.specs.declared.choice.ChosenLayer.{ChosenLayer}
+use Rattle.oas_difference.specs.DiffChoice.{Choice}
+use Rattle.oas_difference.specs.ChosenLayer.{ChosenLayer}
 use Rattle.std.specs.Borrow.{Bor}
 use Rattle.oas_difference.proofs.Chosen.{layout_chosen, meaning_chosen}
 use Rattle.oas_difference.proofs.Held.{changed_held, there, the_items, bag_of, or_bag, bag_at, or_items, elements_found, keys_held, pairs_are}

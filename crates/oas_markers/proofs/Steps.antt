@@ -3,7 +3,7 @@ use Rattle.std.proofs.Common.{◌≡◌, ◌≢◌, ℕ, ◌<◌, List, [], ◌�
 use Rattle.std.specs.Prelude.{if◌then◌else◌, codes, decimal}
 use Rattle.std.proofs.lemmas.Bool.{lt-ltb}
 use Rattle.oas_num.specs.Ratio.{Ratio}
-use Rattle.oas_layout.specs.declared.element.Element.{Element}
+use Rattle.oas_elements.specs.declared.element.Element.{Element}
 use Rattle.oas_difference.specs.Choice.{layer_of}
 use Rattle.oas_difference.specs.Changed.{change_at}
 use Rattle.oas_difference.specs.Entries.{kind_name}

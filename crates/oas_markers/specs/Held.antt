@@ -2,9 +2,9 @@
 use Rattle.std.specs.Prelude.{ℕ, List, [], ◌++◌, map, flat_map, Option, is_some, unwrap_or}
 use Rattle.std.specs.Borrow.{Bor}
 use Rattle.oas_num.specs.Ratio.{Ratio}
-use Rattle.oas_layout.specs.declared.element.Element.{Element}
-use Rattle.oas_layout.specs.Contents.{Cell}
-use Rattle.oas_difference.specs.declared.choice.ChosenLayer.{ChosenLayer}
+use Rattle.oas_elements.specs.declared.element.Element.{Element}
+use Rattle.oas_elements.specs.Contents.{Cell}
+use Rattle.oas_difference.specs.ChosenLayer.{ChosenLayer}
 use Rattle.oas_difference.specs.Held.{cell_pairs, held_changed}
 use Rattle.oas_markers.specs.Markers.{cell_entry, change_item, alone}
 

@@ -5,14 +5,14 @@ use Rattle.std.specs.Ordering.{nat_cmp}
 use Rattle.std.specs.Cmp.Lexicographic.{slice_cmp}
 use Rattle.std.specs.Map.{keys_of}
 use Rattle.oas_num.specs.Ratio.{Ratio}
-use Rattle.oas_layout.specs.declared.profile.Profile.{Profile}
-use Rattle.oas_layout.specs.declared.element.Element.{Element}
-use Rattle.oas_layout.specs.Meaning.{Meaning, elements_of}
+use Rattle.oas_elements.specs.declared.profile.Profile.{Profile}
+use Rattle.oas_elements.specs.declared.element.Element.{Element}
+use Rattle.oas_elements.specs.Meaning.{Meaning, elements_of}
 use Rattle.oas_difference.specs.Ascending.{ascending}
 use Rattle.oas_difference.specs.Difference.{same_ratio}
 use Rattle.oas_difference.specs.Entries.{kind_name}
 use Rattle.oas_difference.specs.Choice.{layer_of, or_empty}
-use Rattle.oas_difference.specs.declared.choice.ChosenLayer.{ChosenLayer}
+use Rattle.oas_difference.specs.ChosenLayer.{ChosenLayer}
 use Rattle.oas_difference.specs.Changed.{changed}
 use Rattle.oas_markers.specs.declared.items.Way.{Way}
 use Rattle.oas_markers.specs.declared.items.Way.TheVariants.{Removed, Added}

@@ -2,10 +2,10 @@
 use Rattle.std.specs.Prelude.{ℕ, ℤ, pos, ◌+ℤ◌, ◌*◌, Bool, true, false, List, [], ◌∷◌, ◌++◌, codes, decimal, Option, None, Some}
 use Rattle.oas_num.specs.Ratio.{Ratio}
 use Rattle.oas_ring.specs.declared.point.Point.{Point}
-use Rattle.oas_layout.specs.declared.element.Element.{Element}
-use Rattle.oas_layout.specs.declared.element.Element.TheVariants.{Placement, Text, Rectangle, Polygon, Path, Circle}
-use Rattle.oas_layout.specs.declared.element.Turns.{Turns}
-use Rattle.oas_layout.specs.declared.element.Turns.TheVariants.{T0, T1, T2, T3}
+use Rattle.oas_elements.specs.declared.element.Element.{Element}
+use Rattle.oas_elements.specs.declared.element.Element.TheVariants.{Placement, Text, Rectangle, Polygon, Path, Circle}
+use Rattle.oas_elements.specs.declared.element.Turns.{Turns}
+use Rattle.oas_elements.specs.declared.element.Turns.TheVariants.{T0, T1, T2, T3}
 use Rattle.oas_markers.specs.Texts.{quoted}
 use Rattle.oas_difference.specs.Microns.{length_in, microns}
 use Rattle.oas_markers.specs.Numbers.{place, places}

@@ -6,20 +6,20 @@ ghost use Rattle.std.specs.Cmp.Lexicographic.{slice_cmp};
 ghost use Rattle.std.specs.List.Sorted.{IsStrictlySortedBy};
 ghost use Rattle.std.specs.Map.{keys_of};
 ghost use Rattle.oas_num.specs.Writing.{Writes};
-ghost use Rattle.oas_layout.specs.Bag.{IsTally};
-ghost use Rattle.oas_layout.specs.Element.{element_cmp};
+ghost use Rattle.oas_elements.specs.Bag.{IsTally};
+ghost use Rattle.oas_elements.specs.Element.{element_cmp};
 ghost use Rattle.oas_markers.specs.Markers.{alone, cell_item, change_item, first_items};
 ghost use Rattle.oas_markers.specs.Held.{held_entries, change_items, held_item, held_items};
 
 use crate::items::{Way, put_cell_entry, put_cell_item, put_change};
-use oas_difference::{CellPair, Cells, Change, ChosenLayer, Side, next_cell, next_change};
+use oas_difference::{CellPair, Change, ChosenCells, ChosenLayer, Side, next_cell, next_change};
 use oas_num::{Fraction, Name, Sink, SinkFault};
 
 /// Puts the entries of all cells.
 pub(crate) fn put_entries<'a, K: Sink>(
     sink: &mut K,
-    mut before: Cells<'a>,
-    mut after: Cells<'a>,
+    mut before: ChosenCells<'a>,
+    mut after: ChosenCells<'a>,
     layers: Option<&[ChosenLayer]>,
 ) -> Result<(), SinkFault>
     requires before { IsStrictlySortedBy (slice_cmp nat_cmp) (keys_of before) }
@@ -76,7 +76,7 @@ fn put_first_change<K: Sink>(
     change: Change<'_>,
     left: &mut u64,
 ) -> Result<(), SinkFault>
-    ensures writes { Writes K.given K.failures sink.old (first_items left.old (change_item gone come name.now (change.entry.element.now, (change.entry.before, change.entry.after)) ∷ [])) result sink.new }
+    ensures writes { Writes K.given K.failures sink.old (first_items left.old (change_item gone come name.now (change.entry.element, (change.entry.before, change.entry.after)) ∷ [])) result sink.new }
     ensures left { OnOk result (left.new ≡ left.old - 1) }
 {
     if *left == 0 {
@@ -133,8 +133,8 @@ pub(crate) fn put_items<'a, K: Sink>(
     sink: &mut K,
     gone: Fraction,
     come: Fraction,
-    mut before: Cells<'a>,
-    mut after: Cells<'a>,
+    mut before: ChosenCells<'a>,
+    mut after: ChosenCells<'a>,
     layers: Option<&[ChosenLayer]>,
     most: u64,
 ) -> Result<(), SinkFault>

@@ -6,14 +6,14 @@ ghost use Rattle.std.specs.Cmp.Lexicographic.{slice_cmp};
 ghost use Rattle.std.specs.List.Sorted.{IsStrictlySortedBy};
 ghost use Rattle.std.specs.Map.{keys_of};
 ghost use Rattle.oas_num.specs.Ratio.{Ratio};
-ghost use Rattle.oas_layout.specs.Bag.{IsTally};
-ghost use Rattle.oas_layout.specs.Element.{element_cmp};
+ghost use Rattle.oas_elements.specs.Bag.{IsTally};
+ghost use Rattle.oas_elements.specs.Element.{element_cmp};
 ghost use Rattle.oas_difference.specs.Held.{held_changed};
 ghost use Rattle.oas_markers.specs.Markers.{alone};
 ghost use Rattle.oas_difference.specs.Microns.{counted_to};
 ghost use Rattle.oas_markers.specs.Held.{held_item, held_items};
 
-use oas_difference::{CellPair, Cells, ChosenLayer, Side, next_cell, next_change};
+use oas_difference::{CellPair, ChosenCells, ChosenLayer, Side, next_cell, next_change};
 
 /// How many elements are not as often on both sides; the count stops at `u64::MAX`.
 fn count_changes<'a>(mut before: Side<'a>, mut after: Side<'a>) -> u64
@@ -51,8 +51,8 @@ fn count_cell<'a>(pair: CellPair<'a>) -> u64
 
 /// How many items all cells have; the count stops at `u64::MAX`.
 pub(crate) fn count_items<'a>(
-    mut before: Cells<'a>,
-    mut after: Cells<'a>,
+    mut before: ChosenCells<'a>,
+    mut after: ChosenCells<'a>,
     layers: Option<&[ChosenLayer]>,
 ) -> u64
     requires before { IsStrictlySortedBy (slice_cmp nat_cmp) (keys_of before) }

@@ -2,6 +2,7 @@
 
 ghost use Rattle.std.specs.Prelude.{◌≡◌, ◌++◌, ◌∷◌, [], codes};
 ghost use Rattle.oas_num.specs.Writing.{Writes};
+ghost use Rattle.oas_difference.specs.Shown.{element_of};
 ghost use Rattle.oas_difference.specs.Choice.{layer_of};
 ghost use Rattle.oas_markers.specs.Shapes.{shape, layer_value};
 ghost use Rattle.oas_markers.specs.declared.items.Way.TheVariants.{Removed, Added};
@@ -10,8 +11,7 @@ ghost use Rattle.oas_markers.specs.Markers.{way_name, way_file, category, about,
 use crate::numbers::put_number;
 use crate::shapes::{put_layer, put_shape};
 use crate::texts::put_escaped;
-use oas_difference::{Change, kind_name};
-use oas_layout::Element;
+use oas_difference::{Change, ShownElement, kind_name, layer_of, show};
 use oas_num::{Fraction, Name, Sink, SinkFault};
 
 /// Which of two layouts has something more often.
@@ -122,12 +122,17 @@ pub(crate) fn put_cell_entry<K: Sink>(sink: &mut K, name: &Name) -> Result<(), S
 }
 
 /// Puts the values of an element, and the end of its item.
-fn put_values<K: Sink>(sink: &mut K, unit: Fraction, element: &Element) -> Result<(), SinkFault>
-    ensures { Writes K.given K.failures sink.old (shape unit element.now ++ (codes "</value>" ++ (layer_value (layer_of element.now) ++ codes "</values></item>\n"))) result sink.new }
+fn put_values<K: Sink>(
+    sink: &mut K,
+    unit: Fraction,
+    element: ShownElement<'_>,
+) -> Result<(), SinkFault>
+    ensures { Writes K.given K.failures sink.old (shape unit (element_of element.entry) ++ (codes "</value>" ++ (layer_value (layer_of (element_of element.entry)) ++ codes "</values></item>\n"))) result sink.new }
 {
+    let layer = layer_of(&element);
     put_shape(sink, unit, element)?;
     sink.put_all(b"</value>")?;
-    put_layer(sink, element)?;
+    put_layer(sink, layer)?;
     sink.put_all(b"</values></item>\n")
 }
 
@@ -138,12 +143,12 @@ fn put_item<K: Sink>(
     way: Way,
     name: &Name,
     count: u64,
-    element: &Element,
+    element: ShownElement<'_>,
 ) -> Result<(), SinkFault>
-    ensures { Writes K.given K.failures sink.old (item unit way name.now count element.now) result sink.new }
+    ensures { Writes K.given K.failures sink.old (item unit way name.now count (element_of element.entry)) result sink.new }
 {
     sink.put_all(item_front(way))?;
-    sink.put_all(kind_name(element))?;
+    sink.put_all(kind_name(&element))?;
     sink.put_all(b"</category><cell>")?;
     put_escaped(sink, name.as_bytes())?;
     sink.put_all(b"</cell><multiplicity>")?;
@@ -160,8 +165,9 @@ pub(crate) fn put_change<K: Sink>(
     name: &Name,
     found: Change<'_>,
 ) -> Result<(), SinkFault>
-    ensures { Writes K.given K.failures sink.old (change_item before after name.now (found.entry.element.now, (found.entry.before, found.entry.after))) result sink.new }
+    ensures { Writes K.given K.failures sink.old (change_item before after name.now (found.entry.element, (found.entry.before, found.entry.after))) result sink.new }
 {
+    let element = show(&found.element);
     if found.after < found.before {
         put_item(
             sink,
@@ -169,7 +175,7 @@ pub(crate) fn put_change<K: Sink>(
             Way::Removed,
             name,
             found.before - found.after,
-            found.element,
+            element,
         )
     } else {
         put_item(
@@ -178,7 +184,7 @@ pub(crate) fn put_change<K: Sink>(
             Way::Added,
             name,
             found.after - found.before,
-            found.element,
+            element,
         )
     }
 }

@@ -32,5 +32,8 @@ mod texts;
 mod writing;
 
 // The crates below, for those above.
-pub use oas_difference;
+
+pub use oas_difference::{
+    Choice, ChosenLayer, Detail, Format, Measure, Options, PLAIN, Syntax, write_difference,
+};
 pub use writing::write_markers;

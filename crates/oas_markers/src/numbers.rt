@@ -6,7 +6,7 @@ ghost use Rattle.oas_difference.specs.Microns.{length_in, microns};
 ghost use Rattle.oas_markers.specs.Numbers.{place, places};
 
 use itoa::Buffer;
-use oas_difference::{put_length, put_microns};
+use oas_difference::{ShownPoints, put_length, put_microns};
 use oas_num::{Fraction, Sink, SinkFault};
 use oas_ring::Point;
 
@@ -65,16 +65,16 @@ pub(crate) fn put_place<K: Sink>(
 }
 
 /// Puts a point after a semicolon.
-fn put_next<K: Sink>(sink: &mut K, unit: Fraction, point: &Point) -> Result<(), SinkFault>
-    ensures { Writes K.given K.failures sink.old (59 ∷ place unit point.now.x point.now.y) result sink.new }
+fn put_next<K: Sink>(sink: &mut K, unit: Fraction, point: Point) -> Result<(), SinkFault>
+    ensures { Writes K.given K.failures sink.old (59 ∷ place unit point.x point.y) result sink.new }
 {
     sink.put(b';')?;
     put_place(sink, unit, point.x, point.y)
 }
 
 /// Puts points, each after a semicolon.
-fn put_rest<K: Sink>(sink: &mut K, unit: Fraction, points: &[Point]) -> Result<(), SinkFault>
-    ensures { Writes K.given K.failures sink.old (flat_map (λ p. 59 ∷ place unit p.x p.y) points.now) result sink.new }
+fn put_rest<K: Sink>(sink: &mut K, unit: Fraction, points: ShownPoints<'_>) -> Result<(), SinkFault>
+    ensures { Writes K.given K.failures sink.old (flat_map (λ p. 59 ∷ place unit p.x p.y) points.entry) result sink.new }
 {
     for point in points {
         put_next(sink, unit, point)?;
@@ -86,13 +86,13 @@ fn put_rest<K: Sink>(sink: &mut K, unit: Fraction, points: &[Point]) -> Result<(
 pub(crate) fn put_places<K: Sink>(
     sink: &mut K,
     unit: Fraction,
-    points: &[Point],
+    mut points: ShownPoints<'_>,
 ) -> Result<(), SinkFault>
-    ensures { Writes K.given K.failures sink.old (places unit points.now) result sink.new }
+    ensures { Writes K.given K.failures sink.old (places unit points.entry) result sink.new }
 {
-    let Some((first, rest)) = points.split_first() else {
+    let Some(first) = points.next() else {
         return Ok(());
     };
     put_place(sink, unit, first.x, first.y)?;
-    put_rest(sink, unit, rest)
+    put_rest(sink, unit, points)
 }

@@ -2,17 +2,16 @@
 
 ghost use Rattle.std.specs.Prelude.{◌≡◌, Some};
 ghost use Rattle.oas_num.specs.Writing.{Writes};
-ghost use Rattle.oas_difference.specs.Choice.{layer_of};
+ghost use Rattle.oas_difference.specs.Shown.{element_of};
 ghost use Rattle.oas_markers.specs.Shapes.{label, box, polygon, path, circle, shape, layer_value, turn_code};
 
 use crate::numbers::{
     put_coordinate, put_double, put_far, put_number, put_place, put_places, put_steps,
 };
 use crate::texts::put_quoted;
-use oas_difference::layer_of;
-use oas_layout::{Element, Turns};
+use oas_difference::{ShownElement, ShownPoints};
+use oas_elements::Turns;
 use oas_num::{Fraction, Sink, SinkFault};
-use oas_ring::Point;
 
 /// How KLayout names a flip and turns.
 fn turn_code(turns: Turns, flip: bool) -> &'static [u8]
@@ -71,8 +70,12 @@ fn put_box<K: Sink>(
 }
 
 /// Puts a polygon.
-fn put_polygon<K: Sink>(sink: &mut K, unit: Fraction, points: &[Point]) -> Result<(), SinkFault>
-    ensures { Writes K.given K.failures sink.old (polygon unit points.now) result sink.new }
+fn put_polygon<K: Sink>(
+    sink: &mut K,
+    unit: Fraction,
+    points: ShownPoints<'_>,
+) -> Result<(), SinkFault>
+    ensures { Writes K.given K.failures sink.old (polygon unit points.entry) result sink.new }
 {
     sink.put_all(b"polygon: (")?;
     put_places(sink, unit, points)?;
@@ -86,9 +89,9 @@ fn put_path<K: Sink>(
     half_width: u64,
     start: i64,
     end: i64,
-    points: &[Point],
+    points: ShownPoints<'_>,
 ) -> Result<(), SinkFault>
-    ensures { Writes K.given K.failures sink.old (path unit half_width start end points.now) result sink.new }
+    ensures { Writes K.given K.failures sink.old (path unit half_width start end points.entry) result sink.new }
 {
     sink.put_all(b"path: (")?;
     put_places(sink, unit, points)?;
@@ -126,49 +129,35 @@ fn put_circle<K: Sink>(
 pub(crate) fn put_shape<K: Sink>(
     sink: &mut K,
     unit: Fraction,
-    element: &Element,
+    element: ShownElement<'_>,
 ) -> Result<(), SinkFault>
-    ensures { Writes K.given K.failures sink.old (shape unit element.now) result sink.new }
+    ensures { Writes K.given K.failures sink.old (shape unit (element_of element.entry)) result sink.new }
 {
     match element {
-        Element::Placement {
+        ShownElement::Placement {
             cell,
             x,
             y,
             turns,
             flip,
-        } => put_label(
-            sink,
-            unit,
-            cell.as_bytes(),
-            turn_code(*turns, *flip),
-            *x,
-            *y,
-        ),
-        Element::Text { string, x, y, .. } => put_label(
-            sink,
-            unit,
-            string.as_bytes(),
-            b"r0",
-            *x,
-            *y,
-        ),
-        Element::Rectangle {
+        } => put_label(sink, unit, cell, turn_code(turns, flip), x, y),
+        ShownElement::Text { string, x, y, .. } => put_label(sink, unit, string, b"r0", x, y),
+        ShownElement::Rectangle {
             width,
             height,
             x,
             y,
             ..
-        } => put_box(sink, unit, *x, *y, *width, *height),
-        Element::Polygon { points, .. } => put_polygon(sink, unit, points.as_slice()),
-        Element::Path {
+        } => put_box(sink, unit, x, y, width, height),
+        ShownElement::Polygon { points, .. } => put_polygon(sink, unit, points),
+        ShownElement::Path {
             half_width,
             start,
             end,
             points,
             ..
-        } => put_path(sink, unit, *half_width, *start, *end, points.as_slice()),
-        Element::Circle { radius, x, y, .. } => put_circle(sink, unit, *radius, *x, *y),
+        } => put_path(sink, unit, half_width, start, end, points),
+        ShownElement::Circle { radius, x, y, .. } => put_circle(sink, unit, radius, x, y),
     }
 }
 
@@ -184,10 +173,10 @@ fn put_layer_value<K: Sink>(sink: &mut K, layer: u64, datatype: u64) -> Result<(
 }
 
 /// Puts the value that says on which layer an element is, if it is on one.
-pub(crate) fn put_layer<K: Sink>(sink: &mut K, element: &Element) -> Result<(), SinkFault>
-    ensures { Writes K.given K.failures sink.old (layer_value (layer_of element.now)) result sink.new }
+pub(crate) fn put_layer<K: Sink>(sink: &mut K, found: Option<(u64, u64)>) -> Result<(), SinkFault>
+    ensures { Writes K.given K.failures sink.old (layer_value found) result sink.new }
 {
-    match layer_of(element) {
+    match found {
         Some((layer, datatype)) => put_layer_value(sink, layer, datatype),
         None => Ok(()),
     }

@@ -8,7 +8,7 @@ ghost use Rattle.std.specs.Map.{keys_of};
 ghost use Rattle.oas_num.specs.Outlets.{IsGiven, IsSent, failures_of};
 ghost use Rattle.oas_num.specs.Ratio.{Ratio};
 ghost use Rattle.oas_num.specs.Writing.{Writes};
-ghost use Rattle.oas_layout.specs.Contents.{meaning_of};
+ghost use Rattle.oas_elements.specs.Contents.{meaning_of};
 ghost use Rattle.oas_difference.specs.Choice.{chosen};
 ghost use Rattle.oas_difference.specs.Held.{cells_chosen};
 ghost use Rattle.oas_markers.specs.Markers.{first_items, markers};
@@ -19,8 +19,7 @@ ghost use Rattle.oas_markers.specs.Written.{IsMarked, IsMarkedUpTo};
 use crate::cells::{put_entries, put_items};
 use crate::counting::count_items;
 use crate::items::put_head;
-use oas_difference::{Cells, Choice, ChosenLayer};
-use oas_layout::Layout;
+use oas_difference::{Choice, ChosenCells, ChosenLayer, Layout};
 use oas_num::{Device, Fraction, Outlet, Refusal, Sink, SinkFault, Why};
 
 /// Puts the items of all cells, at most this many, and what surrounds them.
@@ -28,8 +27,8 @@ fn put_body<'a, K: Sink>(
     sink: &mut K,
     gone: Fraction,
     come: Fraction,
-    before: Cells<'a>,
-    after: Cells<'a>,
+    before: ChosenCells<'a>,
+    after: ChosenCells<'a>,
     layers: Option<&[ChosenLayer]>,
     most: u64,
 ) -> Result<(), SinkFault>
@@ -46,8 +45,8 @@ fn put_body<'a, K: Sink>(
 fn count_markers<'a>(before: &'a Layout, after: &'a Layout, choice: Choice<'a>) -> u64
     ensures { (u v : Ratio) → result ≡ counted_to (length (held_items choice.entry.layers u v (cells_chosen choice.entry before.now.cells) (cells_chosen choice.entry after.now.cells))) }
 {
-    let cells_before = Cells::new(before, choice);
-    let cells_after = Cells::new(after, choice);
+    let cells_before = ChosenCells::new(before, choice);
+    let cells_after = ChosenCells::new(after, choice);
     count_items(cells_before, cells_after, choice.layers)
 }
 
@@ -62,10 +61,10 @@ fn put_markers<'a, K: Sink>(
     requires { before.now.profile ≡ after.now.profile }
     ensures { Writes K.given K.failures sink.old (markers most choice.entry.layers before.now.profile (chosen choice.entry (meaning_of before.now)) (chosen choice.entry (meaning_of after.now))) result sink.new }
 {
-    let entries_before = Cells::new(before, choice);
-    let entries_after = Cells::new(after, choice);
-    let items_before = Cells::new(before, choice);
-    let items_after = Cells::new(after, choice);
+    let entries_before = ChosenCells::new(before, choice);
+    let entries_after = ChosenCells::new(after, choice);
+    let items_before = ChosenCells::new(before, choice);
+    let items_after = ChosenCells::new(after, choice);
     let gone = before.unit();
     let come = after.unit();
     let count = count_markers(before, after, choice);

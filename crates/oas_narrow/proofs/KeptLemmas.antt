@@ -8,9 +8,9 @@ use Rattle.oas_record.specs.declared.records.Record.{Record}
 use Rattle.oas_record.specs.declared.records.Record.TheVariants as record_of
 use Rattle.oas_record.specs.declared.references.CellRef.{CellRef}
 use Rattle.oas_record.specs.declared.spots.Spot.{Spot}
-use Rattle.oas_block.specs.oas_wide.Reals.{wide_of}
-use Rattle.oas_block.specs.oas_wide.WideRecords.{inner_widened}
-use Rattle.oas_block.specs.oas_wide.declared.records.WideRecord.TheVariants as wide
+use Rattle.oas_block.specs.Reals.{wide_of}
+use Rattle.oas_block.specs.WideRecords.{inner_widened}
+use Rattle.oas_block.specs.WideRecord.TheVariants as wide
 use Rattle.oas_narrow.specs.Placements.{magnification_of, angle_of, with_turns}
 use Rattle.oas_narrow.specs.Roles.{plain_role, role_of}
 

@@ -1,7 +1,11 @@
+pub use Rattle.oas_block.proofs.HeadLemmas
+pub use Rattle.oas_block.proofs.OneLemmas
+pub use Rattle.oas_block.proofs.RealLemmas
+pub use Rattle.oas_block.proofs.StandsLemmas
+pub use Rattle.oas_block.proofs.WidenedLemmas
+pub use Rattle.oas_reader.proofs.StoreLemmas
+pub use Rattle.oas_trapezoids.proofs.LawLemmas
+pub use Rattle.oas_trapezoids.proofs.ReasonLemmas
 pub mod TurningLemmas
 pub mod KeptLemmas
 pub mod TurningLaws
-pub use Rattle.oas_block.proofs as oas_block_proofs
-pub use Rattle.oas_foreign.proofs as oas_foreign_proofs
-pub use Rattle.oas_modal.proofs as oas_modal_proofs
-pub use Rattle.oas_block.proofs.oas_wide_proofs

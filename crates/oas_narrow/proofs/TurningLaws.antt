@@ -7,10 +7,10 @@ use Rattle.std.proofs.Math.Nat.{mod-mod, mul-mod_left, mul-mod_right, mul-div_ca
 use Rattle.std.proofs.lemmas.Nat.{pow_pos}
 use Rattle.oas_num.specs.declared.reals.Real.{Real}
 use Rattle.oas_record.specs.declared.placements.Turn.TheVariants.{Degrees}
-use Rattle.oas_layout.specs.declared.element.Turns.TheVariants.{T0, T1, T2, T3}
-use Rattle.oas_modal.specs.oas_drawing.Turns as drawn
-use Rattle.oas_modal.specs.oas_drawing.Turns.{turned, turns_by}
-use Rattle.oas_block.specs.oas_wide.declared.reals.WideReal.{WideReal}
+use Rattle.oas_elements.specs.declared.element.Turns.TheVariants.{T0, T1, T2, T3}
+use Rattle.oas_reader.specs.Turns as drawn
+use Rattle.oas_reader.specs.Turns.{turned, turns_by}
+use Rattle.oas_block.specs.WideReal.{WideReal}
 use Rattle.oas_narrow.specs.Placements.{num_of, den_of, IsOne, IsQuarters, is_one, quarters_of, is_plain, plain_of, magnification_of, degrees_by, angle_of}
 use Rattle.oas_narrow.proofs.TurningLemmas.{equal, halved_is, one_is}
 

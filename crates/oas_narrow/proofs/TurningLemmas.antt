@@ -8,7 +8,7 @@ use Rattle.std.proofs.lemmas.Nat.{pow-add, pow_pos, mul-mod_first, mod-mul-add, 
 use Rattle.std.proofs.Math.Arith.{mod-mul}
 use Rattle.std.proofs.Math.Nat.{pow-suc, mod-lt, mod-mod, mod-eq_of_lt, div-add-mod, mul-le-mul_right, mul-div-mul_right, mul-div_cancel, mul-mod_left}
 use Rattle.std.proofs.Math.Pow.{pow_mono}
-use Rattle.oas_block.specs.oas_wide.declared.reals.WideReal.{WideReal}
+use Rattle.oas_block.specs.WideReal.{WideReal}
 use Rattle.oas_narrow.specs.Placements.{num_of, den_of, is_one, quarters_of}
 
 -- ---- tests

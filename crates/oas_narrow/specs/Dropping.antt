@@ -4,8 +4,8 @@ use Rattle.oas_narrow.specs.declared.dropping.Extra.{Extra}
 use Rattle.oas_narrow.specs.declared.dropping.Extra.TheVariants as extra
 use Rattle.oas_narrow.specs.declared.dropping.Dropping.{Dropping}
 use Rattle.oas_narrow.specs.declared.dropping.Report.{Report}
-use Rattle.oas_block.specs.oas_wide.declared.reasons.WideWhy.{WideWhy}
-use Rattle.oas_block.specs.oas_wide.declared.reasons.WideWhy.TheVariants.{Properties, LayerNames, Extensions}
+use Rattle.oas_block.specs.WideWhy.{WideWhy}
+use Rattle.oas_block.specs.WideWhy.TheVariants.{Properties, LayerNames, Extensions}
 
 -- whether it is named to be left out
 abbrev pub is_named : Dropping → Extra → Bool

@@ -1,3 +1,33 @@
+pub use Rattle.oas_block.specs.BlockHead
+pub use Rattle.oas_block.specs.Blocks
+pub use Rattle.oas_block.specs.Heads
+pub use Rattle.oas_block.specs.Long
+pub use Rattle.oas_block.specs.Reading
+pub use Rattle.oas_block.specs.Reals
+pub use Rattle.oas_block.specs.Reasons
+pub use Rattle.oas_block.specs.Validation
+pub use Rattle.oas_block.specs.WideEnd
+pub use Rattle.oas_block.specs.WideReal
+pub use Rattle.oas_block.specs.WideRecord
+pub use Rattle.oas_block.specs.WideRecords
+pub use Rattle.oas_block.specs.WideRefusal
+pub use Rattle.oas_block.specs.WideStart
+pub use Rattle.oas_block.specs.WideWhy
+pub use Rattle.oas_block.specs.Zeros
+pub use Rattle.oas_block.specs.declared.block.BlockEnd
+pub use Rattle.oas_block.specs.declared.faults.BlockFault
+pub use Rattle.oas_checksum.specs.Signed
+pub use Rattle.oas_checksum.specs.Sums
+pub use Rattle.oas_reader.specs.Drawing
+pub use Rattle.oas_reader.specs.Meaning
+pub use Rattle.oas_reader.specs.Modal
+pub use Rattle.oas_reader.specs.Names
+pub use Rattle.oas_reader.specs.Standing
+pub use Rattle.oas_reader.specs.Stands
+pub use Rattle.oas_reader.specs.Stores
+pub use Rattle.oas_trapezoids.specs.Laws
+pub use Rattle.oas_trapezoids.specs.Steps
+pub use Rattle.oas_trapezoids.specs.Tracked
 pub mod Rejections
 pub mod Dropping
 pub mod Placements
@@ -5,10 +35,3 @@ pub mod Roles
 pub mod Narrowing
 pub mod WideFiles
 pub mod Preparable
-pub use Rattle.oas_block.specs as oas_block
-pub use Rattle.oas_modal.specs.oas_drawing
-pub use Rattle.oas_foreign.specs as oas_foreign
-pub use Rattle.oas_block.specs.oas_inflated
-pub use Rattle.oas_modal.specs as oas_modal
-pub use Rattle.oas_modal.specs.oas_names
-pub use Rattle.oas_block.specs.oas_wide

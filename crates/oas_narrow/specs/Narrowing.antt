@@ -4,13 +4,13 @@ use Rattle.std.specs.Prelude.{◌≡◌, ℕ, ◌+◌, Bool, true, false, cond, 
 use Rattle.std.specs.Option.{option_or}
 use Rattle.oas_num.specs.declared.refusals.Why.{Why}
 use Rattle.oas_record.specs.declared.records.Record.{Record}
-use Rattle.oas_layout.specs.declared.limits.Limits.{Limits}
-use Rattle.oas_modal.specs.Stands.{refusal}
-use Rattle.oas_block.specs.oas_wide.declared.reasons.WideWhy.{WideWhy}
-use Rattle.oas_block.specs.oas_wide.declared.reasons.WideWhy.TheVariants.{Profile}
-use Rattle.oas_block.specs.oas_wide.declared.records.WideRecord.{WideRecord}
-use Rattle.oas_foreign.specs.Steps.{translated_by, kept_after}
-use Rattle.oas_foreign.specs.Tracked.{Tracked, fresh}
+use Rattle.oas_elements.specs.declared.limits.Limits.{Limits}
+use Rattle.oas_reader.specs.Stands.{refusal}
+use Rattle.oas_block.specs.WideWhy.{WideWhy}
+use Rattle.oas_block.specs.WideWhy.TheVariants.{Profile}
+use Rattle.oas_block.specs.WideRecord.{WideRecord}
+use Rattle.oas_trapezoids.specs.Steps.{translated_by, kept_after}
+use Rattle.oas_trapezoids.specs.Tracked.{Tracked, fresh}
 use Rattle.oas_narrow.specs.declared.dropping.Dropping.{Dropping}
 use Rattle.oas_narrow.specs.declared.dropping.Extra.{Extra}
 use Rattle.oas_narrow.specs.declared.dropping.Extra.TheVariants as extra

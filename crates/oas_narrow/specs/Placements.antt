@@ -6,10 +6,10 @@ use Rattle.oas_num.specs.declared.reals.Real.{Real}
 use Rattle.oas_record.specs.declared.placements.Placement.{Placement}
 use Rattle.oas_record.specs.declared.placements.Turn.TheVariants.{Degrees}
 use Rattle.oas_record.specs.declared.records.Record.TheVariants as record_of
-use Rattle.oas_block.specs.oas_wide.declared.placements.WidePlacement.{WidePlacement}
-use Rattle.oas_block.specs.oas_wide.declared.reals.WideReal.{WideReal}
-use Rattle.oas_block.specs.oas_wide.declared.records.WideRecord.{WideRecord}
-use Rattle.oas_block.specs.oas_wide.declared.records.WideRecord.TheVariants as wide
+use Rattle.oas_block.specs.WidePlacement.{WidePlacement}
+use Rattle.oas_block.specs.WideReal.{WideReal}
+use Rattle.oas_block.specs.WideRecord.{WideRecord}
+use Rattle.oas_block.specs.WideRecord.TheVariants as wide
 
 -- ---- what reals are
 

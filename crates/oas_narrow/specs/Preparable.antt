@@ -2,17 +2,17 @@
 use Rattle.std.specs.Prelude.{◌≡◌, ℕ, ◌<◌, ◌*◌, ◌^◌, List, reverse, None}
 use Rattle.oas_checksum.specs.Crc.{crc32}
 use Rattle.oas_checksum.specs.Signed.{signed}
-use Rattle.oas_checksum.specs.Sums.{checksum32}
+use Rattle.oas_checksum.specs.ByteSums.{checksum32}
 use Rattle.oas_num.specs.Ratio.{Ratio, Reduces}
-use Rattle.oas_block.specs.oas_wide.declared.ends.Validation.{Validation}
-use Rattle.oas_block.specs.oas_wide.declared.ends.Validation.TheVariants.{Unvalidated, Crc32, Checksum32}
-use Rattle.oas_block.specs.oas_wide.declared.ends.WideEnd.{WideEnd}
-use Rattle.oas_block.specs.oas_wide.declared.heads.WideStart.{WideStart}
-use Rattle.oas_block.specs.oas_wide.declared.reals.WideReal.{WideReal}
-use Rattle.oas_layout.specs.declared.limits.Limits.{Limits}
-use Rattle.oas_layout.specs.Meaning.{Meaning}
-use Rattle.oas_modal.specs.Stands.{records_mean, end_refusal}
-use Rattle.oas_block.specs.oas_wide.declared.records.WideRecord.{WideRecord}
+use Rattle.oas_block.specs.Validation.{Validation}
+use Rattle.oas_block.specs.Validation.TheVariants.{Unvalidated, Crc32, Checksum32}
+use Rattle.oas_block.specs.WideEnd.{WideEnd}
+use Rattle.oas_block.specs.WideStart.{WideStart}
+use Rattle.oas_block.specs.WideReal.{WideReal}
+use Rattle.oas_elements.specs.declared.limits.Limits.{Limits}
+use Rattle.oas_elements.specs.Meaning.{Meaning}
+use Rattle.oas_reader.specs.Stands.{records_mean, end_refusal}
+use Rattle.oas_block.specs.WideRecord.{WideRecord}
 use Rattle.oas_narrow.specs.declared.dropping.Dropping.{Dropping}
 use Rattle.oas_narrow.specs.Narrowing.{narrowed, ArePrepared}
 use Rattle.oas_narrow.specs.WideFiles.{WideFileOf}

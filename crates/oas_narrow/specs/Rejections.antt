@@ -1,7 +1,7 @@
 -- Where and why a file isn't prepared, from what its parts say.
 use Rattle.oas_num.specs.declared.refusals.Refusal.{Refusal}
-use Rattle.oas_block.specs.oas_wide.declared.reasons.WideRefusal.{WideRefusal}
-use Rattle.oas_block.specs.oas_wide.declared.reasons.WideWhy.TheVariants.{Profile}
+use Rattle.oas_block.specs.WideRefusal.{WideRefusal}
+use Rattle.oas_block.specs.WideWhy.TheVariants.{Profile}
 use Rattle.oas_narrow.specs.declared.places.Place.TheVariants.{File}
 use Rattle.oas_narrow.specs.declared.places.Rejection.{Rejection}
 

@@ -5,11 +5,11 @@ use Rattle.oas_num.specs.declared.refusals.Why.TheVariants.{OutOfPlace, RecordLe
 use Rattle.oas_record.specs.declared.records.Record.{Record}
 use Rattle.oas_record.specs.declared.records.Record.TheVariants as record_of
 use Rattle.oas_record.specs.Records.{id_of}
-use Rattle.oas_block.specs.oas_wide.declared.reasons.WideWhy.{WideWhy}
-use Rattle.oas_block.specs.oas_wide.declared.reasons.WideWhy.TheVariants.{Profile, Extensions}
-use Rattle.oas_block.specs.oas_wide.declared.records.WideRecord.{WideRecord}
-use Rattle.oas_block.specs.oas_wide.declared.records.WideRecord.TheVariants as wide
-use Rattle.oas_block.specs.oas_wide.declared.trapezoids.Trapezoid.{Trapezoid}
+use Rattle.oas_block.specs.WideWhy.{WideWhy}
+use Rattle.oas_block.specs.WideWhy.TheVariants.{Profile, Extensions}
+use Rattle.oas_block.specs.WideRecord.{WideRecord}
+use Rattle.oas_block.specs.WideRecord.TheVariants as wide
+use Rattle.oas_block.specs.Trapezoid.{Trapezoid}
 use Rattle.oas_narrow.specs.declared.dropping.Dropping.{Dropping}
 use Rattle.oas_narrow.specs.declared.dropping.Extra.{Extra}
 use Rattle.oas_narrow.specs.declared.dropping.Extra.TheVariants as extra

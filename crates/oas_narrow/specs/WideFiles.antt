@@ -3,13 +3,13 @@
 use Rattle.std.specs.Prelude.{◌≡◌, ◌≢◌, ℕ, Bool, List, [], ◌∷◌, ◌++◌}
 use Rattle.oas_num.specs.Grammar.{IsPair, IsSuch, IsImage, IsEach}
 use Rattle.oas_record.specs.Heads.{IsMagic}
-use Rattle.oas_block.specs.oas_wide.declared.blocks.BlockHead.{BlockHead}
-use Rattle.oas_block.specs.oas_wide.declared.ends.WideEnd.{WideEnd}
-use Rattle.oas_block.specs.oas_wide.declared.heads.WideStart.{WideStart}
-use Rattle.oas_block.specs.oas_wide.Heads.{SpellsWideStart}
-use Rattle.oas_block.specs.oas_wide.declared.records.WideRecord.{WideRecord}
-use Rattle.oas_block.specs.oas_wide.declared.records.WideRecord.TheVariants.{End, Block}
-use Rattle.oas_block.specs.oas_wide.WideRecords.{wide_record_in}
+use Rattle.oas_block.specs.BlockHead.{BlockHead}
+use Rattle.oas_block.specs.WideEnd.{WideEnd}
+use Rattle.oas_block.specs.WideStart.{WideStart}
+use Rattle.oas_block.specs.Heads.{SpellsWideStart}
+use Rattle.oas_block.specs.WideRecord.{WideRecord}
+use Rattle.oas_block.specs.WideRecord.TheVariants.{End, Block}
+use Rattle.oas_block.specs.WideRecords.{wide_record_in}
 use Rattle.oas_block.specs.Blocks.{Represents}
 
 abbrev pub after_magic : Unit {0} × WideStart → WideStart

@@ -3,10 +3,10 @@ ghost use Rattle.std.specs.Prelude.{◌≡◌, ◌↔◌, ℕ, IsTrue, Option, S
 ghost use Rattle.oas_num.specs.declared.reals.Real.{Real};
 ghost use Rattle.oas_record.specs.declared.placements.Turn.TheVariants.{Degrees};
 ghost use Rattle.oas_record.specs.declared.records.Record.{Record};
-ghost use Rattle.oas_modal.specs.oas_drawing.Turns.{is_one, is_quarters, turned, turns_by};
-ghost use Rattle.oas_block.specs.oas_wide.declared.reals.WideReal.{WideReal};
-ghost use Rattle.oas_block.specs.oas_wide.WideRecords.{inner_widened};
-ghost use Rattle.oas_block.specs.oas_wide.declared.records.WideRecord.TheVariants.{Profile};
+ghost use Rattle.oas_reader.specs.Turns.{is_one, is_quarters, turned, turns_by};
+ghost use Rattle.oas_block.specs.WideReal.{WideReal};
+ghost use Rattle.oas_block.specs.WideRecords.{inner_widened};
+ghost use Rattle.oas_block.specs.WideRecord.TheVariants.{Profile};
 ghost use Rattle.oas_narrow.specs.Placements.{IsOne, IsQuarters, magnification_of, angle_of, with_turns};
 
 /// A record of the profile is translated to itself. A magnification is accepted exactly where the real is 1, and an angle

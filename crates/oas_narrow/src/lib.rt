@@ -4,7 +4,7 @@
 //! What this crate promises to the crates above it:
 //!
 //! - The definitions (specs/): the role of a record in a file of the profile (Roles.antt); which records of the profile a
-//!   list of the standard's records is translated to, by the rules of `oas_foreign`, why one more isn't prepared after
+//!   list of the standard's records is translated to, by the rules of `oas_trapezoids`, why one more isn't prepared after
 //!   others, and what is counted (Narrowing.antt); what a file of the standard is (WideFiles.antt); which files are prepared,
 //!   and what they mean (Preparable.antt).
 //! - [`Role`] is the role of a record in a file of the profile: whether a cell is open after it, what stops it depending on
@@ -19,11 +19,11 @@
 //! # How it is built
 //!
 //! - specs/Narrowing.antt: `narrowed` is the list of the profile's records that a list of the standard's is translated to:
-//!   for each of those, what oas_foreign returns for it after the ones before it (`translated_after`). Whether a cell is open is
-//!   looked up in the standard's records (`is_open`), since a name record that is left out closes its cell too; an element
-//!   after it is `OutOfPlace`, and the reader of oas_modal need not know. `obstacle_after` is why one more record isn't
-//!   prepared: because of what is named, outside a cell, because of what oas_foreign says about it, or because of what the
-//!   profile says about the records that it is translated to.
+//!   for each of those, what oas_trapezoids returns for it after the ones before it (`translated_after`). Whether a cell is
+//!   open is looked up in the standard's records (`is_open`), since a name record that is left out closes its cell too; an
+//!   element after it is `OutOfPlace`, and the reader of oas_reader need not know. `obstacle_after` is why one more record
+//!   isn't prepared: because of what is named, outside a cell, because of what oas_trapezoids says about it, or because of
+//!   what the profile says about the records that it is translated to.
 //! - specs/Placements.antt, src/turning.rt: a placement by reals is translated to one of the profile. A real of types 0 to 5
 //!   is unchanged, so that a record of the profile is translated to itself. Of a float only what the profile decides on is
 //!   kept: magnification 1 or another, and a number of quarter turns or none. So the profile's reader refuses for its own
@@ -45,9 +45,10 @@ mod turning;
 // The crates below, for those above.
 pub use dropping::{Dropping, Extra, Report};
 pub use oas_block;
-pub use oas_block::oas_wide;
-pub use oas_foreign;
-pub use oas_modal;
+pub use oas_block::oas_standard;
+pub use oas_checksum;
+pub use oas_reader;
+pub use oas_trapezoids;
 pub use places::{Place, Rejection};
 pub use roles::Role;
 pub use turning::with_turns;

@@ -1,12 +1,11 @@
-pub use Rattle.oas_bytes.specs.Script
-pub use Rattle.oas_bytes.specs.Readers
-pub use Rattle.oas_bytes.specs.Outlets
 pub use Rattle.oas_bytes.specs.Devices
 pub use Rattle.oas_bytes.specs.Laws.OutletLaws
-pub use Rattle.oas_bytes.specs.declared.sources.SourceFault
-pub use Rattle.oas_bytes.specs.declared.readers.Ending
-pub use Rattle.oas_bytes.specs.declared.sinks.SinkFault
+pub use Rattle.oas_bytes.specs.Outlets
+pub use Rattle.oas_bytes.specs.Readers
+pub use Rattle.oas_bytes.specs.Script
 pub use Rattle.oas_bytes.specs.declared.outlets.Outlet
+pub use Rattle.oas_bytes.specs.declared.sinks.SinkFault
+pub use Rattle.oas_bytes.specs.declared.sources.SourceFault
 pub mod Refusals
 pub mod Grammar
 pub mod Begun

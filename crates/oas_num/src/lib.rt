@@ -52,6 +52,8 @@
 //!   spelling is shorter. Crates above use what oas_bytes has through this crate: src/lib.rt re-exports the types,
 //!   specs/Lib.antt the definitions, and proofs/WritingLemmas.antt the lemmas of sinks. proofs/PuttingLemmas.antt has those
 //!   of putting part after part.
+//! - src/written.rt: the trait [`Content`] of what has bytes to put, and [`write_content`], which writes all of them or says how
+//!   many the writer took (specs/Written.antt).
 //! - src/refusals.rt, sentences.rt, table.rt; specs/Refusals.antt: the reasons, by numbers, by names and in sentences, what
 //!   is printed of them, and what becomes one of them by `?`. specs/Named.antt: why bytes are no name, or no label.
 //! - src/fractions.rt, specs/Ratio.antt, specs/Laws/RatioLaws.antt: contracts see a `Fraction` as a `Ratio`, the record of
@@ -74,6 +76,7 @@ mod spelling;
 mod table;
 mod texts;
 mod writing;
+mod written;
 
 pub use deltas::{Delta1, Delta2, Delta3, GDelta};
 pub use fractions::Fraction;
@@ -92,3 +95,4 @@ pub use spelling::{Spelled, next_byte, read_if, read_list};
 pub use table::REASONS;
 pub use texts::{TextClass, next_within, read_text};
 pub use writing::{put_gdelta, put_signed, put_unsigned, unsigned_len};
+pub use written::{Content, write_content};

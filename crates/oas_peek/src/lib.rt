@@ -34,7 +34,7 @@
 //!   used in the same way.
 //!
 //! oas_file and oas_judge first call it for each record, with the bytes that a source shows (`Source::ahead`), and pass what
-//! it returns to `Reader::take_rectangle`, `Reader::take_named` or `Reader::take` of oas_modal. So the most frequent records
+//! it returns to `Reader::take_rectangle`, `Reader::take_named` or `Reader::take` of oas_reader. So the most frequent records
 //! cost neither a call for each byte nor the moves of a `Record`, which has room for the largest kind.
 #![tactic(auto)]
 

@@ -2,26 +2,27 @@
 use Rattle.std.proofs.Common.{◌≡◌, ◌≢◌, ℕ, Bool, List, [], Option, None, Some, Result, Ok, Err, IsTrue, ◌⊎◌, inl, inr, refl, sym, ap, subst, arith}
 use Rattle.oas_num.specs.declared.refusals.Why.TheVariants as why_of
 use Rattle.oas_num.specs.Script.{Script, Consumed}
-use Rattle.oas_narrow.specs.oas_block.declared.block.BlockEnd.{BlockEnd}
-use Rattle.oas_narrow.specs.oas_block.declared.block.BlockEnd.TheVariants.{Whole, Unfinished, Other}
-use Rattle.oas_narrow.specs.oas_block.declared.faults.BlockFault.{BlockFault}
-use Rattle.oas_narrow.specs.oas_block.declared.faults.BlockFault.TheVariants as fault
-use Rattle.oas_narrow.specs.oas_block.Reading.{Tells, ConsumesAll, EndsBlock, FailsBlock, IsUnfinished, IsOther}
-use Rattle.oas_narrow.proofs.oas_block_proofs.StandsLemmas.{RepresentsNothing, nothing_stands, longer_stands, told}
-use Rattle.oas_layout.specs.declared.limits.Limits.{Limits}
-use Rattle.oas_narrow.specs.oas_wide.declared.blocks.BlockHead.{BlockHead}
-use Rattle.oas_narrow.specs.oas_wide.declared.reasons.WideWhy.{WideWhy}
-use Rattle.oas_narrow.specs.oas_wide.declared.reasons.WideWhy.TheVariants as wide
-use Rattle.oas_narrow.specs.oas_wide.declared.records.WideRecord.{WideRecord}
+use Rattle.oas_narrow.specs.BlockEnd.{BlockEnd}
+use Rattle.oas_narrow.specs.BlockEnd.TheVariants.{Whole, Unfinished, Other}
+use Rattle.oas_narrow.specs.BlockFault.{BlockFault}
+use Rattle.oas_narrow.specs.BlockFault.TheVariants as fault
+use Rattle.oas_narrow.specs.Reading.{Tells, ConsumesAll, EndsBlock, FailsBlock, IsUnfinished, IsOther}
+use Rattle.oas_narrow.proofs.StandsLemmas.{RepresentsNothing, nothing_stands, longer_stands, told}
+use Rattle.oas_elements.specs.declared.limits.Limits.{Limits}
+use Rattle.oas_narrow.specs.Stores.{Store}
+use Rattle.oas_narrow.specs.BlockHead.{BlockHead}
+use Rattle.oas_narrow.specs.WideWhy.{WideWhy}
+use Rattle.oas_narrow.specs.WideWhy.TheVariants as wide
+use Rattle.oas_narrow.specs.WideRecord.{WideRecord}
 use Rattle.oas_narrow.specs.declared.dropping.Dropping.{Dropping}
 use Rattle.oas_narrow.specs.declared.places.Place.{Place}
 use Rattle.oas_narrow.specs.declared.places.Place.TheVariants.{Block}
 use Rattle.oas_narrow.specs.declared.places.Rejection.{Rejection}
-use Rattle.oas_prepare.specs.declared.taking.Preparation.{Preparation}
 use Rattle.oas_prepare.specs.Deciding.{decides}
 use Rattle.oas_prepare.specs.DataReasons.{run_out_why, why_in, fault_why, data_max, AtOne, AtLast, NotRead, NoData as NoneGiven, DecidedBy}
 use Rattle.oas_prepare.specs.Inside.{IsOfData, StopsInner, ConsumesData, place_in, in_block, place_of_last, ended_by, IsAtBlock, NoData, StopsBlock, ForMemory, CutOff, ByBytes, InVain, AtInner, ReasonsBlock, ConsumesBlock}
 use Rattle.oas_prepare.specs.Places.{at_file, StopsInData, IsVain}
+use Rattle.oas_prepare.specs.Taking.{State}
 use Rattle.oas_prepare.proofs.Packed.{vain_no_data}
 
 no_data : {head : BlockHead} {old new : Script} (t : Tells head (λ bytes. RepresentsNothing head bytes) old new) → NoData head t.bytes
@@ -70,10 +71,10 @@ why_decides : (end : BlockEnd) (why : WideWhy) → IsOfData why → IsTrue (deci
 why_decides end why (inl e) = subst (λ (w : WideWhy). IsTrue (decides (why_in end w))) (sym e) (run_out_decides end)
 why_decides end why (inr is) = kept_decides end why is
 
-module _ (in_end : Bool) (at : ℕ) (head : BlockHead) (old new : Script) (first p : Preparation) (plain : List ℕ) where
+module _ {C : Type 0} (t : Store C) (in_end : Bool) (at : ℕ) (head : BlockHead) (old new : Script) (first p : State C) (plain : List ℕ) where
   -- all records of what such a stream gives were taken
-  vain : (end : BlockEnd) (last : Option ℕ) → end ≢ Whole → Vain head plain old new → EndsBlock head data_max old plain end new → ConsumesData in_end plain first (Ok last) p →
-      ConsumesBlock in_end at head old first (Err (record { place = place_of_last at last; why = run_out_why end })) new p
+  vain : (end : BlockEnd) (last : Option ℕ) → end ≢ Whole → Vain head plain old new → EndsBlock head data_max old plain end new → ConsumesData t in_end plain first (Ok last) p →
+      ConsumesBlock t in_end at head old first (Err (record { place = place_of_last at last; why = run_out_why end })) new p
   vain end None apart v gives d = λ records stands prepared. (
     ByBytes v.bytes v.takes (vain_no_data v.is) refl (run_out_decides end),
     record { place = refl; decided = NoneGiven end apart (subst (λ (c : List ℕ). EndsBlock head data_max old c end new) (d records stands prepared).1 gives) refl },
@@ -85,14 +86,14 @@ module _ (in_end : Bool) (at : ℕ) (head : BlockHead) (old new : Script) (first
 
   -- all records of the data were taken
   pub data_taken : (end : BlockEnd) (last : Option ℕ) (result : Result (Unit {0}) Rejection) → result ≡ ended_by at end last → EndsBlock head data_max old plain end new
-      → ConsumesData in_end plain first (Ok last) p → ConsumesBlock in_end at head old first result new p
+      → ConsumesData t in_end plain first (Ok last) p → ConsumesBlock t in_end at head old first result new p
   data_taken Whole last result is h d =
-      subst (λ (r : Result (Unit {0}) Rejection). ConsumesBlock in_end at head old first r new p) (sym is)
+      subst (λ (r : Result (Unit {0}) Rejection). ConsumesBlock t in_end at head old first r new p) (sym is)
       (omega (arith, h.takes.given), λ records stands prepared. record { bytes = h.bytes; takes = h.takes; plain = plain; is = h.block; made = (d records stands prepared).0 })
   data_taken Unfinished last result is h d =
-      subst (λ (r : Result (Unit {0}) Rejection). ConsumesBlock in_end at head old first r new p) (sym is) (vain Unfinished last (λ e. cc) (unfinished head plain h) h d)
+      subst (λ (r : Result (Unit {0}) Rejection). ConsumesBlock t in_end at head old first r new p) (sym is) (vain Unfinished last (λ e. cc) (unfinished head plain h) h d)
   data_taken Other last result is h d =
-      subst (λ (r : Result (Unit {0}) Rejection). ConsumesBlock in_end at head old first r new p) (sym is) (vain Other last (λ e. cc) (other head plain h) h d)
+      subst (λ (r : Result (Unit {0}) Rejection). ConsumesBlock t in_end at head old first r new p) (sym is) (vain Other last (λ e. cc) (other head plain h) h d)
 
   module _ (limits : Limits) (dropping : Dropping) (records : List WideRecord) (e : Rejection) (s : StopsInner limits dropping in_end records plain e) where
     place_is : (end : BlockEnd) → (in_block at end e).place ≡ Block at s.within
@@ -126,7 +127,7 @@ module _ (in_end : Bool) (at : ℕ) (head : BlockHead) (old new : Script) (first
     }
 
   -- or it stops at one
-  pub data_stops : (end : BlockEnd) (e : Rejection) → EndsBlock head data_max old plain end new → ConsumesData in_end plain first (Err e) p → ConsumesBlock in_end at head old first (Err (in_block at end e)) new p
+  pub data_stops : (end : BlockEnd) (e : Rejection) → EndsBlock head data_max old plain end new → ConsumesData t in_end plain first (Err e) p → ConsumesBlock t in_end at head old first (Err (in_block at end e)) new p
   data_stops end e h d = λ records stands prepared. let s = d records stands prepared in (
     inner_stops first.reader.limits first.dropping records e s end h,
     inner_reasons first.reader.limits first.dropping records e s end h,

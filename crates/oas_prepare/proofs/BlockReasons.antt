@@ -3,21 +3,22 @@ use Rattle.std.proofs.Common.{◌≡◌, ℕ, Bool, List, ◌++◌, refl, arith}
 use Rattle.oas_num.specs.Reading.{ReadsValue}
 use Rattle.oas_num.specs.Script.{Script, Consumed}
 use Rattle.oas_num.proofs.ReadLemmas.{Consumed-then}
-use Rattle.oas_layout.specs.declared.limits.Limits.{Limits}
-use Rattle.oas_narrow.specs.oas_wide.declared.blocks.BlockHead.{BlockHead}
-use Rattle.oas_narrow.specs.oas_wide.declared.heads.WideStart.{WideStart}
+use Rattle.oas_elements.specs.declared.limits.Limits.{Limits}
+use Rattle.oas_narrow.specs.Stores.{Store}
+use Rattle.oas_narrow.specs.BlockHead.{BlockHead}
+use Rattle.oas_narrow.specs.WideStart.{WideStart}
 use Rattle.oas_narrow.specs.declared.dropping.Dropping.{Dropping}
 use Rattle.oas_narrow.specs.declared.places.Place.{Place}
 use Rattle.oas_narrow.specs.declared.places.Place.TheVariants.{File, Block}
 use Rattle.oas_narrow.specs.declared.places.Rejection.{Rejection}
 use Rattle.oas_narrow.specs.WideFiles.{head_in}
-use Rattle.oas_prepare.specs.declared.taking.Preparation.{Preparation}
 use Rattle.oas_prepare.specs.DataReasons.{DecidedBy}
 use Rattle.oas_prepare.specs.Gathering.{HasGathered}
 use Rattle.oas_prepare.specs.Inside.{IsAtBlock, ReasonsBlock}
+use Rattle.oas_prepare.specs.Taking.{State}
 use Rattle.oas_prepare.specs.Reasons.{BehindHead, DecidedAt, TheBlock, IsReasoned}
 
-module _ {origin mid : Script} {head : WideStart} {first p : Preparation} (m : HasGathered origin head first mid p) {block : BlockHead} {begun : Script} (read : ReadsValue (head_in head.flag_in_end) mid block begun) where
+module _ {C : Type 0} {t : Store C} {origin mid : Script} {head : WideStart} {first p : State C} (m : HasGathered t origin head first mid p) {block : BlockHead} {begun : Script} (read : ReadsValue (head_in head.flag_in_end) mid block begun) where
   abbrev in_end : Bool
   in_end = head.flag_in_end
 

@@ -6,27 +6,28 @@ use Rattle.oas_num.specs.Grammar.{IsEach}
 use Rattle.oas_num.specs.Reading.{ReadsValue}
 use Rattle.oas_num.specs.Script.{Script, Consumed}
 use Rattle.oas_num.proofs.ReadLemmas.{Consumed-then}
-use Rattle.oas_narrow.specs.oas_block.Blocks.{Represents}
-use Rattle.oas_layout.specs.declared.limits.Limits.{Limits}
-use Rattle.oas_narrow.specs.oas_wide.declared.blocks.BlockHead.{BlockHead}
-use Rattle.oas_narrow.specs.oas_wide.declared.ends.WideEnd.{WideEnd}
-use Rattle.oas_narrow.specs.oas_wide.declared.heads.WideStart.{WideStart}
-use Rattle.oas_narrow.specs.oas_wide.declared.reasons.WideWhy.{WideWhy}
-use Rattle.oas_narrow.specs.oas_wide.declared.reasons.WideWhy.TheVariants as wide
-use Rattle.oas_narrow.specs.oas_wide.declared.records.WideRecord.{WideRecord}
-use Rattle.oas_narrow.specs.oas_wide.Reasons.{plain_of}
+use Rattle.oas_narrow.specs.Blocks.{Represents}
+use Rattle.oas_elements.specs.declared.limits.Limits.{Limits}
+use Rattle.oas_narrow.specs.Stores.{Store}
+use Rattle.oas_narrow.specs.BlockHead.{BlockHead}
+use Rattle.oas_narrow.specs.WideEnd.{WideEnd}
+use Rattle.oas_narrow.specs.WideStart.{WideStart}
+use Rattle.oas_narrow.specs.WideWhy.{WideWhy}
+use Rattle.oas_narrow.specs.WideWhy.TheVariants as wide
+use Rattle.oas_narrow.specs.WideRecord.{WideRecord}
+use Rattle.oas_narrow.specs.Reasons.{plain_of}
 use Rattle.oas_narrow.specs.declared.dropping.Dropping.{Dropping}
 use Rattle.oas_narrow.specs.declared.places.Place.{Place}
 use Rattle.oas_narrow.specs.declared.places.Place.TheVariants.{File, Block}
 use Rattle.oas_narrow.specs.declared.places.Rejection.{Rejection}
 use Rattle.oas_narrow.specs.Preparable.{AllPrepared, Formed}
 use Rattle.oas_narrow.specs.WideFiles.{inner_in, end_in, head_in, item_in, AsRecord, AsBlock, records_of}
-use Rattle.oas_prepare.specs.declared.taking.Preparation.{Preparation}
 use Rattle.oas_prepare.specs.Deciding.{decides}
 use Rattle.oas_prepare.specs.Gathering.{HasGathered}
 use Rattle.oas_prepare.specs.Inside.{HasTaken, IsAtBlock, IsCutBy, NoData, StopsBlock, ForMemory, CutOff, ByBytes, InVain, AtInner, ReasonsBlock}
 use Rattle.oas_prepare.specs.Places.{at_file, ByRecord, StopsInData, EndsInData, IsVain, StopsInBytes, ByData, ByStream, AtBlock, StopsAt, StopsInFile, IsPlace, IsBefore}
 use Rattle.oas_prepare.specs.Run.{IsStopped, IsPlaced, Stops}
+use Rattle.oas_prepare.specs.Taking.{State}
 use Rattle.oas_prepare.proofs.BlockReasons.{block_reasoned}
 use Rattle.oas_prepare.proofs.Fronts.{Compared, Same, More, Less, Fronts, fronts, Ended, ended, end_by, not_both, allowed_prefix, front_more, goes_on}
 use Rattle.oas_prepare.proofs.Items.{record_no_block, block_no_end}
@@ -49,7 +50,7 @@ record GoesOn (in_end : Bool) (block : BlockHead) (before : List WideRecord) (by
   each : IsEach (inner_in in_end) inner plain
   records : all ≡ before ++ (inner ++ tail)
 
-module _ {origin mid : Script} {head : WideStart} {first p : Preparation} (m : HasGathered origin head first mid p) {block : BlockHead} {begun : Script} (read : ReadsValue (head_in head.flag_in_end) mid block begun) where
+module _ {C : Type 0} {t : Store C} {origin mid : Script} {head : WideStart} {first p : State C} (m : HasGathered t origin head first mid p) {block : BlockHead} {begun : Script} (read : ReadsValue (head_in head.flag_in_end) mid block begun) where
   abbrev in_end : Bool
   in_end = head.flag_in_end
 
@@ -98,7 +99,7 @@ module _ {origin mid : Script} {head : WideStart} {first p : Preparation} (m : H
 
   -- ---- it is taken
 
-  pub block_more : {new : Script} {after : Preparation} → HasTaken in_end block begun p m.records new after → HasGathered origin head first new after
+  pub block_more : {new : Script} {after : State C} → HasTaken t in_end block begun p m.records new after → HasGathered t origin head first new after
   block_more {new = new} {after = after} h = record {
     records = m.records ++ h.made.inner;
     bytes = m.bytes ++ (read.bytes ++ h.bytes);
@@ -113,7 +114,6 @@ module _ {origin mid : Script} {head : WideStart} {first p : Preparation} (m : H
     same = record {
       unit = h.made.same.unit ∙ m.same.unit;
       limits = h.made.same.limits ∙ m.same.limits;
-      profile = h.made.same.profile ∙ m.same.profile;
       dropping = h.made.same.dropping ∙ m.same.dropping;
     };
   }

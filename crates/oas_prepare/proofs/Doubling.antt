@@ -9,7 +9,7 @@ use Rattle.std.proofs.lemmas.Nat.{pow-add}
 use Rattle.oas_num.specs.Ratio.{Ratio, Reduces}
 use Rattle.oas_num.specs.Laws.RatioLaws.{one_lowest}
 use Rattle.oas_record.specs.Laws.HeadLaws.{itself}
-use Rattle.oas_narrow.specs.oas_wide.declared.reals.WideReal.{WideReal}
+use Rattle.oas_narrow.specs.WideReal.{WideReal}
 use Rattle.oas_narrow.specs.Preparable.{IsUnitOf}
 use Rattle.oas_prepare.specs.Units.{ratio, IsPast}
 

@@ -7,16 +7,16 @@ use Rattle.oas_num.specs.declared.refusals.Refusal.{Refusal}
 use Rattle.oas_num.specs.Laws.GrammarLaws.{after_same}
 use Rattle.oas_num.specs.Script.{Script, Consumed, IsAtEnd}
 use Rattle.oas_num.proofs.ReadLemmas.{Consumed-then}
-use Rattle.oas_layout.specs.declared.limits.Limits.{Limits}
-use Rattle.oas_layout.specs.declared.profile.Profile.{Profile}
-use Rattle.oas_narrow.specs.oas_modal.Stands.{end_refusal}
-use Rattle.oas_canon.specs.oas_file.Gathering.{MissesEnd}
-use Rattle.oas_canon.proofs.oas_file_proofs.Judged.{end_decides}
-use Rattle.oas_narrow.specs.oas_wide.declared.ends.WideEnd.{WideEnd}
-use Rattle.oas_narrow.specs.oas_wide.declared.heads.WideStart.{WideStart}
-use Rattle.oas_narrow.specs.oas_wide.declared.records.WideRecord.{WideRecord}
-use Rattle.oas_narrow.specs.oas_wide.declared.reasons.WideWhy.{WideWhy}
-use Rattle.oas_narrow.specs.oas_wide.declared.reasons.WideWhy.TheVariants as wide
+use Rattle.oas_elements.specs.declared.limits.Limits.{Limits}
+use Rattle.oas_narrow.specs.Stands.{ReaderState, end_refusal}
+use Rattle.oas_narrow.specs.Stores.{Store}
+use Rattle.oas_canon.specs.Gathering.{MissesEnd}
+use Rattle.oas_canon.proofs.Judged.{end_decides}
+use Rattle.oas_narrow.specs.WideEnd.{WideEnd}
+use Rattle.oas_narrow.specs.WideStart.{WideStart}
+use Rattle.oas_narrow.specs.WideRecord.{WideRecord}
+use Rattle.oas_narrow.specs.WideWhy.{WideWhy}
+use Rattle.oas_narrow.specs.WideWhy.TheVariants as wide
 use Rattle.oas_narrow.specs.declared.dropping.Dropping.{Dropping}
 use Rattle.oas_narrow.specs.declared.places.Place.{Place}
 use Rattle.oas_narrow.specs.declared.places.Place.TheVariants.{File}
@@ -26,10 +26,10 @@ use Rattle.oas_narrow.specs.Preparable.{IsUnitOf, AllPrepared, IsValid, Formed, 
 use Rattle.oas_narrow.specs.Rejections.{refused}
 use Rattle.oas_narrow.specs.WideFiles.{WideParts, WideFileOf}
 use Rattle.oas_prepare.specs.declared.gathering.Gathered.{Gathered}
-use Rattle.oas_prepare.specs.declared.taking.Preparation.{Preparation}
 use Rattle.oas_prepare.specs.Gathering.{HasAll, IsGathered}
 use Rattle.oas_prepare.specs.Places.{at_file, StopsAt, AfterLast, ByEnd}
-use Rattle.oas_narrow.specs.oas_wide.Reasons.{plain_of}
+use Rattle.oas_prepare.specs.Taking.{State}
+use Rattle.oas_narrow.specs.Reasons.{plain_of}
 use Rattle.oas_prepare.specs.Deciding.{decides}
 use Rattle.oas_prepare.specs.Reasons.{DecidedAt, TailMay, TheTail, WholeMay, Unsound, Torn, TheWhole, IsReasoned}
 use Rattle.oas_prepare.specs.Run.{IsPlaced, Stops}
@@ -38,7 +38,7 @@ use Rattle.oas_prepare.proofs.OneFile.{PrefixFree-file, same_all, file_all, none
 
 -- ---- after END
 
-module _ {old mid : Script} {head : WideStart} {first p : Preparation} {end_at : ℕ} {end : WideEnd} (m : HasAll old head first end_at end mid p) where
+module _ {C : Type 0} {t : Store C} {old mid : Script} {head : WideStart} {first p : State C} {end_at : ℕ} {end : WideEnd} (m : HasAll t old head first end_at end mid p) where
   abbrev limits : Limits
   limits = first.reader.limits
 
@@ -150,9 +150,9 @@ module _ {old mid : Script} {head : WideStart} {first p : Preparation} {end_at :
   not_ended refusal h = tail_stops refusal.at refusal.why h.0 h.1
 
   -- the input ends
-  pub all_gathered : {new : Script} {profile : Profile} {limited : Limits} {drop : Dropping} → Consumed mid [] new → IsAtEnd new → IsUnitOf head.unit first.reader.unit →
-      limits ≡ limited → first.reader.profile ≡ profile → dropping ≡ drop → IsGathered limited profile drop old (record { preparation = p; at = end_at; end = end }) new
-  all_gathered takes at_end is_unit within by named = record {
+  pub all_gathered : {new : Script} {limited : Limits} {drop : Dropping} → Consumed mid [] new → IsAtEnd new → IsUnitOf head.unit first.reader.unit →
+      limits ≡ limited → dropping ≡ drop → IsGathered t limited drop old (record { preparation = p; at = end_at; end = end }) new
+  all_gathered takes at_end is_unit within named = record {
     start = head;
     records = m.records;
     bytes = m.bytes;
@@ -166,12 +166,11 @@ module _ {old mid : Script} {head : WideStart} {first p : Preparation} {end_at :
     prepared = subst (λ (b : Limits × Dropping). AllPrepared b.0 b.1 m.records) (λ i. (within i, named i)) m.prepared;
     stands = m.stands;
     within = m.same.limits ∙ within;
-    by = m.same.profile ∙ by;
   }
 
 -- ---- all that was gathered
 
-module _ {limits : Limits} {profile : Profile} {dropping : Dropping} {old new : Script} {g : Gathered} (m : IsGathered limits profile dropping old g new) where
+module _ {C : Type 0} {t : Store C} {limits : Limits} {dropping : Dropping} {old new : Script} {g : Gathered (ReaderState C)} (m : IsGathered t limits dropping old g new) where
   abbrev whole : List ℕ
   whole = m.bytes ++ m.last
 

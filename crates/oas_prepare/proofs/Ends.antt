@@ -4,8 +4,8 @@ use Rattle.std.specs.Prelude.{replicate}
 use Rattle.std.proofs.lemmas.List.{length-append, length-replicate, replicate-append-replicate, append_cancel_right}
 use Rattle.std.proofs.lemmas.Bool.{cases_lt}
 use Rattle.oas_num.specs.Grammar.{IsEach}
-use Rattle.oas_layout.specs.declared.limits.Limits.{Limits}
-use Rattle.oas_narrow.specs.oas_wide.declared.records.WideRecord.{WideRecord}
+use Rattle.oas_elements.specs.declared.limits.Limits.{Limits}
+use Rattle.oas_narrow.specs.WideRecord.{WideRecord}
 use Rattle.oas_narrow.specs.declared.dropping.Dropping.{Dropping}
 use Rattle.oas_narrow.specs.WideFiles.{inner_in}
 use Rattle.oas_prepare.specs.Laws.{OneLastRecord}

@@ -5,13 +5,13 @@ use Rattle.oas_num.specs.Grammar.{PrefixFree, IsEach}
 use Rattle.oas_num.specs.Laws.GrammarLaws.{after_same}
 use Rattle.oas_num.proofs.ReadLemmas.{Wants}
 use Rattle.oas_record.specs.Heads.{magic, IsMagic}
-use Rattle.oas_layout.specs.declared.limits.Limits.{Limits}
-use Rattle.oas_narrow.specs.oas_wide.declared.ends.WideEnd.{WideEnd}
-use Rattle.oas_narrow.specs.oas_wide.declared.heads.WideStart.{WideStart}
-use Rattle.oas_narrow.specs.oas_wide.declared.records.WideRecord.{WideRecord}
-use Rattle.oas_narrow.specs.oas_wide.declared.records.WideRecord.TheVariants.{End}
-use Rattle.oas_narrow.specs.oas_wide.Heads.{SpellsWideStart}
-use Rattle.oas_narrow.specs.oas_wide.WideRecords.{wide_record_in}
+use Rattle.oas_elements.specs.declared.limits.Limits.{Limits}
+use Rattle.oas_narrow.specs.WideEnd.{WideEnd}
+use Rattle.oas_narrow.specs.WideStart.{WideStart}
+use Rattle.oas_narrow.specs.WideRecord.{WideRecord}
+use Rattle.oas_narrow.specs.WideRecord.TheVariants.{End}
+use Rattle.oas_narrow.specs.Heads.{SpellsWideStart}
+use Rattle.oas_narrow.specs.WideRecords.{wide_record_in}
 use Rattle.oas_narrow.specs.declared.dropping.Dropping.{Dropping}
 use Rattle.oas_narrow.specs.Narrowing.{ArePrepared}
 use Rattle.oas_narrow.specs.Preparable.{AllPrepared, Formed}

@@ -4,15 +4,16 @@ use Rattle.oas_num.specs.Reading.{ReadsValue}
 use Rattle.oas_num.specs.Script.{Script, Consumed}
 use Rattle.oas_num.specs.Ratio.{Ratio}
 use Rattle.oas_num.proofs.ReadLemmas.{Consumed-then}
-use Rattle.oas_layout.specs.declared.limits.Limits.{Limits}
-use Rattle.oas_narrow.specs.oas_wide.declared.ends.WideEnd.{WideEnd}
-use Rattle.oas_narrow.specs.oas_wide.declared.heads.WideStart.{WideStart}
-use Rattle.oas_narrow.specs.oas_wide.declared.reasons.WideRefusal.{WideRefusal}
-use Rattle.oas_narrow.specs.oas_wide.declared.reasons.WideWhy.{WideWhy}
-use Rattle.oas_narrow.specs.oas_wide.declared.records.WideRecord.{WideRecord}
-use Rattle.oas_narrow.specs.oas_wide.declared.records.WideRecord.TheVariants.{End}
-use Rattle.oas_narrow.specs.oas_wide.Reasons.{plain_of}
-use Rattle.oas_narrow.specs.oas_wide.WideRecords.{FailsWide}
+use Rattle.oas_elements.specs.declared.limits.Limits.{Limits}
+use Rattle.oas_narrow.specs.Stores.{Store}
+use Rattle.oas_narrow.specs.WideEnd.{WideEnd}
+use Rattle.oas_narrow.specs.WideStart.{WideStart}
+use Rattle.oas_narrow.specs.WideRefusal.{WideRefusal}
+use Rattle.oas_narrow.specs.WideWhy.{WideWhy}
+use Rattle.oas_narrow.specs.WideRecord.{WideRecord}
+use Rattle.oas_narrow.specs.WideRecord.TheVariants.{End}
+use Rattle.oas_narrow.specs.Reasons.{plain_of}
+use Rattle.oas_narrow.specs.WideRecords.{FailsWide}
 use Rattle.oas_narrow.specs.declared.dropping.Dropping.{Dropping}
 use Rattle.oas_narrow.specs.declared.places.Place.{Place}
 use Rattle.oas_narrow.specs.declared.places.Place.TheVariants.{File}
@@ -20,13 +21,12 @@ use Rattle.oas_narrow.specs.declared.places.Rejection.{Rejection}
 use Rattle.oas_narrow.specs.Preparable.{AllPrepared}
 use Rattle.oas_narrow.specs.Rejections.{rejected}
 use Rattle.oas_narrow.specs.WideFiles.{WidePrefixOf, inner_in, end_in, AsRecord}
-use Rattle.oas_prepare.specs.declared.taking.Preparation.{Preparation}
 use Rattle.oas_prepare.specs.Gathering.{HasGathered, HasAll}
 use Rattle.oas_prepare.specs.Heads.{HasStarted}
 use Rattle.oas_prepare.specs.Places.{ByRecord, StopsAt}
 use Rattle.oas_prepare.specs.Reasons.{DecidedAt, TheNext, IsReasoned}
 use Rattle.oas_prepare.specs.Run.{Stops, IsPlaced}
-use Rattle.oas_prepare.specs.Taking.{Stands, SameRun, IsStop, MayStop, obstacle_next}
+use Rattle.oas_prepare.specs.Taking.{State, Stands, SameRun, IsStop, MayStop, obstacle_next}
 use Rattle.oas_prepare.proofs.Fronts.{allowed_last, allowed_more, prefix_allowed, front_more}
 use Rattle.oas_prepare.proofs.Refusing.{record_stops, Judges, ForMemory, Decided, judged_stopped, memory_placed, there_at}
 use Rattle.oas_prepare.proofs.Reasons.{obstacle_decides}
@@ -34,7 +34,7 @@ use Rattle.oas_prepare.proofs.Items.{record_no_block, block_is}
 use Rattle.oas_prepare.proofs.WideLaws.{PrefixFree-wide}
 
 -- after the head
-pub gathered_none : {origin now : Script} {head : WideStart} {unit : Ratio} {first : Preparation} → HasStarted origin head unit now → Stands first [] → HasGathered origin head first now first
+pub gathered_none : {C : Type 0} {t : Store C} {origin now : Script} {head : WideStart} {unit : Ratio} {first : State C} → HasStarted origin head unit now → Stands t first [] → HasGathered t origin head first now first
 gathered_none s stands = record {
   records = [];
   bytes = s.bytes;
@@ -42,10 +42,10 @@ gathered_none s stands = record {
   front = s.front;
   prepared = tt;
   stands = stands;
-  same = record { unit = refl; limits = refl; profile = refl; dropping = refl };
+  same = record { unit = refl; limits = refl; dropping = refl };
 }
 
-module _ {origin mid : Script} {head : WideStart} {first p : Preparation} (m : HasGathered origin head first mid p) where
+module _ {C : Type 0} {t : Store C} {origin mid : Script} {head : WideStart} {first p : State C} (m : HasGathered t origin head first mid p) where
   abbrev limits : Limits
   limits = first.reader.limits
 
@@ -69,8 +69,8 @@ module _ {origin mid : Script} {head : WideStart} {first p : Preparation} (m : H
       same_next = ap (λ (b : Limits × Dropping). obstacle_next b.0 b.1 m.records w) (λ i. (m.same.limits i, m.same.dropping i))
 
       -- a record is read and taken
-      pub gather_more : (after : Preparation) → (obstacle_next p.reader.limits p.dropping m.records w ≡ None) × Stands after (m.records ++ w ∷ []) → SameRun p after
-          → HasGathered origin head first new after
+      pub gather_more : (after : State C) → (obstacle_next p.reader.limits p.dropping m.records w ≡ None) × Stands t after (m.records ++ w ∷ []) → SameRun p after
+          → HasGathered t origin head first new after
       gather_more after h same = record {
         records = m.records ++ w ∷ [];
         bytes = m.bytes ++ read.bytes;
@@ -81,7 +81,6 @@ module _ {origin mid : Script} {head : WideStart} {first p : Preparation} (m : H
         same = record {
           unit = same.unit ∙ m.same.unit;
           limits = same.limits ∙ m.same.limits;
-          profile = same.profile ∙ m.same.profile;
           dropping = same.dropping ∙ m.same.dropping;
         };
       }
@@ -137,7 +136,7 @@ module _ {origin mid : Script} {head : WideStart} {first p : Preparation} (m : H
       gather_stops at e is stop = next_stops at e stop.place is (subst (λ (b : Limits × Dropping). MayStop b.0 b.1 m.records w e.why) (λ i. (m.same.limits i, m.same.dropping i)) stop.why)
 
     -- END is read
-    pub gather_ends : (at : ℕ) (end : WideEnd) → at ≡ mid.given → ReadsValue (end_in head.flag_in_end) mid end new → HasAll origin head first at end new p
+    pub gather_ends : (at : ℕ) (end : WideEnd) → at ≡ mid.given → ReadsValue (end_in head.flag_in_end) mid end new → HasAll t origin head first at end new p
     gather_ends at end is read = record {
       records = m.records;
       bytes = m.bytes;

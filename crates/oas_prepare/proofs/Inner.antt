@@ -3,19 +3,19 @@ use Rattle.std.proofs.Common.{◌≡◌, ◌≢◌, ℕ, ◌+◌, ◌-◌, ◌%�
 use Rattle.std.specs.Prelude.{nat_lt, replicate}
 use Rattle.std.proofs.lemmas.Bool.{le-ltb, cases_lt}
 use Rattle.std.proofs.lemmas.List.{append-nil, length-append, length-replicate, append_cancel_left, take_all}
-use Rattle.oas_narrow.specs.oas_inflated.Zeros.{StopsIn, StopsAt}
+use Rattle.oas_narrow.specs.Zeros.{StopsIn, StopsAt}
 use Rattle.oas_num.specs.Reading.{ReadsValue}
 use Rattle.oas_num.specs.Script.{Script, Rest, Gave, Consumed, slice_script}
 use Rattle.oas_num.proofs.ReadLemmas.{Consumed-none, Consumed-then}
-use Rattle.oas_layout.specs.declared.limits.Limits.{Limits}
-use Rattle.oas_narrow.specs.oas_wide.declared.records.WideRecord.{WideRecord}
+use Rattle.oas_elements.specs.declared.limits.Limits.{Limits}
+use Rattle.oas_narrow.specs.Stores.{Store}
+use Rattle.oas_narrow.specs.WideRecord.{WideRecord}
 use Rattle.oas_narrow.specs.declared.dropping.Dropping.{Dropping}
 use Rattle.oas_narrow.specs.Preparable.{AllPrepared}
 use Rattle.oas_narrow.specs.WideFiles.{inner_in}
-use Rattle.oas_prepare.specs.declared.taking.Preparation.{Preparation}
 use Rattle.oas_prepare.specs.Inside.{HasInner, IsLast}
 use Rattle.oas_prepare.specs.Places.{pads, NoPadLast, AsRun, AsOther}
-use Rattle.oas_prepare.specs.Taking.{Stands, SameRun, obstacle_next}
+use Rattle.oas_prepare.specs.Taking.{State, Stands, SameRun, obstacle_next}
 use Rattle.oas_prepare.proofs.Fronts.{allowed_more, push}
 use Rattle.oas_prepare.proofs.Items.{none_long}
 use Rattle.oas_prepare.proofs.Pads.{stands_pads, prepared_pads}
@@ -60,30 +60,30 @@ abbrev pub MayBegin : Bool → List ℕ → List ℕ → Type 0
 MayBegin in_end plain bytes = (rest : List ℕ) → plain ≡ bytes ++ 0 ∷ rest → (length bytes % 2 ^ 20 ≡ 0) ⊎ NoPadLast in_end bytes
 
 -- some records of the data were taken
-pub record HasSome (in_end : Bool) (first : Preparation) (records : List WideRecord) (plain : List ℕ) (s : Script) (p : Preparation) (last : Option ℕ) : Type 0 where
+pub record HasSome {C : Type 0} (t : Store C) (in_end : Bool) (first : State C) (records : List WideRecord) (plain : List ℕ) (s : Script) (p : State C) (last : Option ℕ) : Type 0 where
   pub bytes : List ℕ
   pub takes : Consumed (source_of plain) bytes s
-  pub made : HasInner in_end first records bytes p
+  pub made : HasInner t in_end first records bytes p
   pub ends : IsLast first.reader.limits first.dropping in_end records bytes last
   pub runs : MayBegin in_end plain bytes
 
-pub some_none : (in_end : Bool) {first : Preparation} {records : List WideRecord} (plain : List ℕ) → Stands first records → AllPrepared first.reader.limits first.dropping records →
-    HasSome in_end first records plain (source_of plain) first None
-some_none in_end {first = first} {records = records} plain stands prepared = record {
+pub some_none : {C : Type 0} (t : Store C) (in_end : Bool) (first : State C) (records : List WideRecord) (plain : List ℕ) → Stands t first records → AllPrepared first.reader.limits first.dropping records →
+    HasSome t in_end first records plain (source_of plain) first None
+some_none t in_end first records plain stands prepared = record {
   bytes = [];
   takes = Consumed-none (source_of plain);
   made = record {
     inner = [];
     each = refl;
     prepared = subst (AllPrepared first.reader.limits first.dropping) (sym (append-nil records)) prepared;
-    stands = subst (Stands first) (sym (append-nil records)) stands;
-    same = record { unit = refl; limits = refl; profile = refl; dropping = refl };
+    stands = subst (Stands t first) (sym (append-nil records)) stands;
+    same = record { unit = refl; limits = refl; dropping = refl };
   };
   ends = refl;
   runs = λ rest e. inl refl;
 }
 
-module _ {in_end : Bool} {first : Preparation} {records : List WideRecord} {plain : List ℕ} {mid : Script} {p : Preparation} {last : Option ℕ} (m : HasSome in_end first records plain mid p last) where
+module _ {C : Type 0} {t : Store C} {in_end : Bool} {first : State C} {records : List WideRecord} {plain : List ℕ} {mid : Script} {p : State C} {last : Option ℕ} (m : HasSome t in_end first records plain mid p last) where
   abbrev limits : Limits
   limits = first.reader.limits
 
@@ -101,8 +101,8 @@ module _ {in_end : Bool} {first : Preparation} {records : List WideRecord} {plai
   stops_here stops rest e = subst StopsIn e (subst StopsAt here.rest stops) refl
 
   -- all of them
-  pub some_all : mid.given ≡ length plain → HasInner in_end first records plain p × IsLast limits dropping in_end records plain last
-  some_all end = subst (λ (b : List ℕ). HasInner in_end first records b p × IsLast limits dropping in_end records b last) all (m.made, m.ends) where
+  pub some_all : mid.given ≡ length plain → HasInner t in_end first records plain p × IsLast limits dropping in_end records plain last
+  some_all end = subst (λ (b : List ℕ). HasInner t in_end first records b p × IsLast limits dropping in_end records b last) all (m.made, m.ends) where
     none : here.left ≡ []
     none = none_long here.left (omega (arith, end, here.given, ap length here.joined, length-append m.bytes here.left))
 
@@ -125,7 +125,7 @@ module _ {in_end : Bool} {first : Preparation} {records : List WideRecord} {plai
   same_next w = ap (λ (b : Limits × Dropping). obstacle_next b.0 b.1 before w) (λ i. (m.made.same.limits i, m.made.same.dropping i))
 
   -- nothing more was taken
-  pub some_kept : {now : Script} → Consumed mid [] now → HasSome in_end first records plain now p last
+  pub some_kept : {now : Script} → Consumed mid [] now → HasSome t in_end first records plain now p last
   some_kept {now = now} takes = record {
     bytes = m.bytes;
     takes = subst (λ (b : List ℕ). Consumed (source_of plain) b now) (append-nil m.bytes) (Consumed-then (source_of plain) mid now m.bytes [] m.takes takes);
@@ -136,7 +136,7 @@ module _ {in_end : Bool} {first : Preparation} {records : List WideRecord} {plai
 
   -- this many PADs were taken, up to the next multiple or to what isn't one
   pub some_pads : (at : ℕ) → at ≡ mid.given → (count : ℕ) → 0 < count → count ≤ 2 ^ 20 - at % 2 ^ 20 → {new : Script} → Consumed mid (replicate count 0) new → (count < 2 ^ 20 - at % 2 ^ 20 → StopsAt new.rest) →
-      HasSome in_end first records plain new p (Some at)
+      HasSome t in_end first records plain new p (Some at)
   some_pads at is_at count some few {new = new} takes stops = record {
     bytes = m.bytes ++ zeros;
     takes = Consumed-then (source_of plain) mid new m.bytes zeros m.takes takes;
@@ -144,7 +144,7 @@ module _ {in_end : Bool} {first : Preparation} {records : List WideRecord} {plai
       inner = m.made.inner ++ pads count;
       each = each_more (inner_in in_end) m.made.inner (pads count) m.bytes zeros m.made.each (each_pads in_end count);
       prepared = prepared;
-      stands = subst (Stands p) (append_assoc records m.made.inner (pads count)) (stands_pads count m.made.stands);
+      stands = subst (Stands t p) (append_assoc records m.made.inner (pads count)) (stands_pads count m.made.stands);
       same = m.made.same;
     };
     ends = record {
@@ -182,8 +182,8 @@ module _ {in_end : Bool} {first : Preparation} {records : List WideRecord} {plai
       counted = length-append m.bytes zeros ∙ (λ i. sym is_before i + length-replicate {A = ℕ} count 0 i)
 
   -- one more is read and taken, where no zero comes next
-  pub some_more : (at : ℕ) → at ≡ mid.given → StopsAt mid.rest → {new : Script} {w : WideRecord} → ReadsValue (inner_in in_end) mid w new → (after : Preparation) →
-      (obstacle_next p.reader.limits p.dropping before w ≡ None) × Stands after (before ++ w ∷ []) → SameRun p after → HasSome in_end first records plain new after (Some at)
+  pub some_more : (at : ℕ) → at ≡ mid.given → StopsAt mid.rest → {new : Script} {w : WideRecord} → ReadsValue (inner_in in_end) mid w new → (after : State C) →
+      (obstacle_next p.reader.limits p.dropping before w ≡ None) × Stands t after (before ++ w ∷ []) → SameRun p after → HasSome t in_end first records plain new after (Some at)
   some_more at is_at stops {new = new} {w = w} read after h same = record {
     bytes = m.bytes ++ read.bytes;
     takes = Consumed-then (source_of plain) mid new m.bytes read.bytes m.takes read.takes;
@@ -191,11 +191,10 @@ module _ {in_end : Bool} {first : Preparation} {records : List WideRecord} {plai
       inner = m.made.inner ++ w ∷ [];
       each = push (inner_in in_end) m.made.inner w m.bytes read.bytes m.made.each read.spelled;
       prepared = prepared;
-      stands = subst (Stands after) (append_assoc records m.made.inner (w ∷ [])) h.1;
+      stands = subst (Stands t after) (append_assoc records m.made.inner (w ∷ [])) h.1;
       same = record {
         unit = same.unit ∙ m.made.same.unit;
         limits = same.limits ∙ m.made.same.limits;
-        profile = same.profile ∙ m.made.same.profile;
         dropping = same.dropping ∙ m.made.same.dropping;
       };
     };

@@ -9,24 +9,24 @@ use Rattle.oas_num.specs.Script.{Script, Rest, Consumed, IsAtEnd, HasFailed, IsT
 use Rattle.oas_num.proofs.PieceLemmas.{whole_piece}
 use Rattle.oas_record.specs.Found.{NoneIsSpelled}
 use Rattle.oas_canon.proofs.Whole.{Cause, Bytes, End, Device, Limit, Writer, Room, cause_of}
-use Rattle.oas_canon.proofs.oas_file_proofs.Judged.{decides_format}
-use Rattle.oas_layout.specs.declared.limits.Limits.{Limits}
-use Rattle.oas_narrow.specs.oas_wide.declared.reasons.WideWhy.{WideWhy}
-use Rattle.oas_narrow.specs.oas_wide.declared.reasons.WideWhy.TheVariants as wide
-use Rattle.oas_narrow.specs.oas_wide.declared.records.WideRecord.{WideRecord}
-use Rattle.oas_narrow.specs.oas_wide.Reasons.{plain_of}
-use Rattle.oas_narrow.specs.oas_wide.WideRecords.{FailsWide}
+use Rattle.oas_canon.proofs.Judged.{decides_format}
+use Rattle.oas_elements.specs.declared.limits.Limits.{Limits}
+use Rattle.oas_narrow.specs.Stores.{Store}
+use Rattle.oas_narrow.specs.WideWhy.{WideWhy}
+use Rattle.oas_narrow.specs.WideWhy.TheVariants as wide
+use Rattle.oas_narrow.specs.WideRecord.{WideRecord}
+use Rattle.oas_narrow.specs.Reasons.{plain_of}
+use Rattle.oas_narrow.specs.WideRecords.{FailsWide}
 use Rattle.oas_narrow.specs.declared.dropping.Dropping.{Dropping}
 use Rattle.oas_narrow.specs.declared.places.Place.TheVariants.{File}
 use Rattle.oas_narrow.specs.declared.places.Rejection.{Rejection}
 use Rattle.oas_narrow.specs.Preparable.{AllPrepared}
 use Rattle.oas_narrow.specs.WideFiles.{inner_in}
-use Rattle.oas_prepare.specs.declared.taking.Preparation.{Preparation}
 use Rattle.oas_prepare.specs.DataReasons.{DecidedInData, StopsFor, Unread as NoRecord, EndThere, BlockThere, NotPrepared}
 use Rattle.oas_prepare.specs.Deciding.{decides}
 use Rattle.oas_prepare.specs.Inside.{FailsInside, Unread, EndInside, BlockInside, IsOfData, StopsInner}
 use Rattle.oas_prepare.specs.Places.{IsNext}
-use Rattle.oas_prepare.specs.Taking.{IsStop, MayStop}
+use Rattle.oas_prepare.specs.Taking.{State, IsStop, MayStop}
 use Rattle.oas_prepare.proofs.Fronts.{allowed_last}
 use Rattle.oas_prepare.proofs.Inner.{HasSome, here, then, left_is}
 use Rattle.oas_prepare.proofs.Items.{record_no_block, record_no_end}
@@ -35,7 +35,7 @@ use Rattle.oas_prepare.proofs.Refusing.{ended_cut}
 use Rattle.oas_prepare.proofs.Whole.{memory_is}
 use Rattle.oas_prepare.proofs.WideLaws.{PrefixFree-inner, wide_never}
 
-module _ {in_end : Bool} {first : Preparation} {records : List WideRecord} {plain : List ℕ} {mid : Script} {p : Preparation} {last : Option ℕ} (m : HasSome in_end first records plain mid p last) where
+module _ {C : Type 0} {t : Store C} {in_end : Bool} {first : State C} {records : List WideRecord} {plain : List ℕ} {mid : Script} {p : State C} {last : Option ℕ} (m : HasSome t in_end first records plain mid p last) where
   abbrev limits : Limits
   limits = first.reader.limits
 

@@ -6,13 +6,13 @@ use Rattle.oas_num.specs.Grammar.{PrefixFree, IsEach}
 use Rattle.oas_num.specs.Integers.{IsClosed}
 use Rattle.oas_num.specs.Script.{Script, Consumed}
 use Rattle.oas_num.specs.Laws.GrammarLaws.{after_same, PrefixFree-pair}
-use Rattle.oas_narrow.specs.oas_block.Blocks.{Represents}
-use Rattle.oas_narrow.proofs.oas_block_proofs.OneLemmas.{one_block}
-use Rattle.oas_narrow.specs.oas_wide.declared.blocks.BlockHead.{BlockHead}
-use Rattle.oas_narrow.specs.oas_wide.declared.ends.WideEnd.{WideEnd}
-use Rattle.oas_narrow.specs.oas_wide.declared.records.WideRecord.{WideRecord}
-use Rattle.oas_narrow.specs.oas_wide.declared.records.WideRecord.TheVariants.{End, Block}
-use Rattle.oas_narrow.specs.oas_wide.WideRecords.{wide_record_in}
+use Rattle.oas_narrow.specs.Blocks.{Represents}
+use Rattle.oas_narrow.proofs.OneLemmas.{one_block}
+use Rattle.oas_narrow.specs.BlockHead.{BlockHead}
+use Rattle.oas_narrow.specs.WideEnd.{WideEnd}
+use Rattle.oas_narrow.specs.WideRecord.{WideRecord}
+use Rattle.oas_narrow.specs.WideRecord.TheVariants.{End, Block}
+use Rattle.oas_narrow.specs.WideRecords.{wide_record_in}
 use Rattle.oas_narrow.specs.WideFiles.{inner_in, end_in, head_in, packed_by, block_in, is_block_of, item_in, AsRecord, AsBlock, records_of}
 use Rattle.oas_prepare.proofs.WideLaws.{PrefixFree-wide, PrefixFree-inner}
 

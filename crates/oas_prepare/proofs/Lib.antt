@@ -1,3 +1,6 @@
+pub use Rattle.oas_canon.proofs.Held
+pub use Rattle.oas_canon.proofs.Whole as CanonWhole
+pub use Rattle.oas_canon.proofs.Written
 pub mod Narrowed
 pub mod Consumed
 pub mod ResolvedLemmas
@@ -24,4 +27,3 @@ pub mod Ends
 pub mod Inner
 pub mod InnerStops
 pub mod BlockEnds
-pub use Rattle.oas_canon.proofs as oas_canon_proofs

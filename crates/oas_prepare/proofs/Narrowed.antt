@@ -1,8 +1,8 @@
 -- What one more record adds to the records of the profile and to what is left out.
 use Rattle.std.proofs.Common.{◌≡◌, ℕ, ◌+◌, List, [], ◌∷◌, ◌++◌, Option, None, Some, reverse, refl, sym, ap, ◌∙◌, arith}
 use Rattle.std.proofs.lemmas.List.{reverse-append}
-use Rattle.oas_narrow.specs.oas_foreign.Steps.{kept_after}
-use Rattle.oas_narrow.specs.oas_wide.declared.records.WideRecord.{WideRecord}
+use Rattle.oas_narrow.specs.Steps.{kept_after}
+use Rattle.oas_narrow.specs.WideRecord.{WideRecord}
 use Rattle.oas_narrow.specs.declared.dropping.Extra.{Extra}
 use Rattle.oas_narrow.specs.declared.dropping.Extra.TheVariants as extra
 use Rattle.oas_narrow.specs.declared.dropping.Report.{Report}

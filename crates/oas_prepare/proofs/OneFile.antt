@@ -4,9 +4,9 @@ use Rattle.std.proofs.lemmas.List.{append-nil}
 use Rattle.oas_num.specs.Laws.GrammarLaws.{after_same, PrefixFree-pair}
 use Rattle.oas_num.specs.Grammar.{PrefixFree, IsPair, IsEach}
 use Rattle.oas_num.specs.Laws.CombinatorLaws.{PrefixFree-until}
-use Rattle.oas_narrow.specs.oas_wide.declared.ends.WideEnd.{WideEnd}
-use Rattle.oas_narrow.specs.oas_wide.declared.heads.WideStart.{WideStart}
-use Rattle.oas_narrow.specs.oas_wide.declared.records.WideRecord.{WideRecord}
+use Rattle.oas_narrow.specs.WideEnd.{WideEnd}
+use Rattle.oas_narrow.specs.WideStart.{WideStart}
+use Rattle.oas_narrow.specs.WideRecord.{WideRecord}
 use Rattle.oas_narrow.specs.WideFiles.{WideFileOf, WidePrefixOf, wide_head, wide_file, item_in, end_in, records_of}
 use Rattle.oas_prepare.proofs.Items.{PrefixFree-item, IsApart-item}
 use Rattle.oas_prepare.proofs.WideLaws.{PrefixFree-head, PrefixFree-end}

@@ -3,12 +3,12 @@ use Rattle.std.proofs.Common.{◌≡◌, ℕ, ◌<◌, ◌≤◌, Bool, List, []
 use Rattle.std.proofs.lemmas.List.{append-nil, length-append}
 use Rattle.oas_num.specs.Grammar.{IsEach}
 use Rattle.oas_num.specs.Laws.GrammarLaws.{after_same}
-use Rattle.oas_narrow.specs.oas_block.Blocks.{Represents}
-use Rattle.oas_narrow.proofs.oas_block_proofs.OneLemmas.{one_block}
-use Rattle.oas_narrow.proofs.oas_block_proofs.StandsLemmas.{RepresentsNothing, unfinished_stands, other_stands}
-use Rattle.oas_layout.specs.declared.limits.Limits.{Limits}
-use Rattle.oas_narrow.specs.oas_wide.declared.blocks.BlockHead.{BlockHead}
-use Rattle.oas_narrow.specs.oas_wide.declared.records.WideRecord.{WideRecord}
+use Rattle.oas_narrow.specs.Blocks.{Represents}
+use Rattle.oas_narrow.proofs.OneLemmas.{one_block}
+use Rattle.oas_narrow.proofs.StandsLemmas.{RepresentsNothing, unfinished_stands, other_stands}
+use Rattle.oas_elements.specs.declared.limits.Limits.{Limits}
+use Rattle.oas_narrow.specs.BlockHead.{BlockHead}
+use Rattle.oas_narrow.specs.WideRecord.{WideRecord}
 use Rattle.oas_narrow.specs.declared.dropping.Dropping.{Dropping}
 use Rattle.oas_narrow.specs.Preparable.{AllPrepared}
 use Rattle.oas_narrow.specs.WideFiles.{inner_in, head_in, block_in}

@@ -7,26 +7,24 @@ use Rattle.oas_record.specs.declared.records.Record.TheVariants.{Pad}
 use Rattle.oas_record.specs.Records.{record_in}
 use Rattle.oas_num.specs.Laws.IntegerLaws.{zero_spelled}
 use Rattle.oas_num.specs.Style.{Any}
-use Rattle.oas_layout.specs.declared.limits.Limits.{Limits}
-use Rattle.oas_narrow.specs.oas_drawing.Drawing.{elements_at}
-use Rattle.oas_narrow.specs.oas_drawing.Modal.{modal_of}
-use Rattle.oas_narrow.specs.oas_modal.Held.{Held}
-use Rattle.oas_narrow.specs.oas_names.Meaning.{cells_drawn}
-use Rattle.oas_narrow.specs.oas_names.Names.{Table, TableRepresents, cell_names, text_strings}
-use Rattle.oas_narrow.specs.oas_modal.Stands.{Represents, ReaderState, seen, is_in_cell, number_drawn, weight_so_far_of}
-use Rattle.oas_narrow.specs.oas_modal.Stores.{held_store, HoldCells}
-use Rattle.oas_narrow.proofs.oas_modal_proofs.StoreLemmas.{hold_none}
-use Rattle.oas_narrow.specs.oas_wide.declared.reasons.WideWhy.{WideWhy}
-use Rattle.oas_narrow.specs.oas_wide.declared.records.WideRecord.{WideRecord}
-use Rattle.oas_narrow.specs.oas_wide.declared.records.WideRecord.TheVariants.{Profile}
-use Rattle.oas_narrow.proofs.oas_wide_proofs.WidenedLemmas.{widen}
+use Rattle.oas_elements.specs.declared.limits.Limits.{Limits}
+use Rattle.oas_narrow.specs.Drawing.{elements_at}
+use Rattle.oas_narrow.specs.Modal.{modal_of}
+use Rattle.oas_narrow.specs.Meaning.{cells_drawn}
+use Rattle.oas_narrow.specs.Names.{Table, TableRepresents, cell_names, text_strings}
+use Rattle.oas_narrow.specs.Stands.{Represents, ReaderState, seen, is_in_cell, number_drawn, weight_so_far_of}
+use Rattle.oas_narrow.specs.Stores.{Store, HoldCells}
+use Rattle.oas_narrow.proofs.StoreLemmas.{hold_none}
+use Rattle.oas_narrow.specs.WideWhy.{WideWhy}
+use Rattle.oas_narrow.specs.WideRecord.{WideRecord}
+use Rattle.oas_narrow.specs.WideRecord.TheVariants.{Profile}
+use Rattle.oas_narrow.proofs.WidenedLemmas.{widen}
 use Rattle.oas_narrow.specs.declared.dropping.Dropping.{Dropping}
 use Rattle.oas_narrow.specs.Narrowing.{kept_of, translated_after, listed, narrowed, translated_obstacle}
 use Rattle.oas_narrow.specs.Preparable.{AllPrepared}
 use Rattle.oas_narrow.specs.WideFiles.{inner_in}
-use Rattle.oas_prepare.specs.declared.taking.Preparation.{Preparation}
 use Rattle.oas_prepare.specs.Places.{pads}
-use Rattle.oas_prepare.specs.Taking.{Stands, obstacle_next}
+use Rattle.oas_prepare.specs.Taking.{State, Stands, obstacle_next}
 use Rattle.oas_prepare.proofs.Fronts.{allowed_more}
 use Rattle.oas_prepare.proofs.Narrowed.{narrowed-more, kept-more, open-more, report-more}
 
@@ -58,16 +56,13 @@ cells_pad t rs n = record { numbering = n.numbering; agrees = n.agrees; next = n
 strings_pad : (t : Table (List ℕ)) (rs : List Record) → TableRepresents text_strings t rs → TableRepresents text_strings t (Pad ∷ rs)
 strings_pad t rs n = record { numbering = n.numbering; agrees = n.agrees; next = n.next; free = n.free }
 
-drawn_pad : (hs : List Held) (rs : List Record) → HoldCells held_store hs (cells_drawn elements_at rs) → HoldCells held_store hs (cells_drawn elements_at (Pad ∷ rs))
-drawn_pad hs rs h = hold_none held_store hs (cells_drawn elements_at rs) h
-
-reader_pad : (r : ReaderState Held) (rs : List Record) → Represents held_store r rs → Represents held_store r (rs ++ Pad ∷ [])
-reader_pad r rs s = record {
+reader_pad : {C : Type 0} (t : Store C) (r : ReaderState C) (rs : List Record) → Represents t r rs → Represents t r (rs ++ Pad ∷ [])
+reader_pad t r rs s = record {
   sound = s.sound;
   standing = s.standing ∙ sym (seen_pad (reverse rs)) ∙ ap seen back;
   names = subst (TableRepresents cell_names r.names) back (cells_pad r.names (reverse rs) s.names);
   strings = subst (TableRepresents text_strings r.strings) back (strings_pad r.strings (reverse rs) s.strings);
-  cells = subst (λ (b : List Record). HoldCells held_store r.cells (cells_drawn elements_at b)) back (drawn_pad r.cells (reverse rs) s.cells);
+  cells = subst (λ (b : List Record). HoldCells t r.cells (cells_drawn elements_at b)) back (hold_none t r.cells (cells_drawn elements_at (reverse rs)) s.cells);
 } where
   back : Pad ∷ reverse rs ≡ reverse (rs ++ Pad ∷ [])
   back = sym (reverse-append rs (Pad ∷ []))
@@ -86,9 +81,9 @@ handed_pad before = same_if (kept_of before).is_mixed (Ok (Pad ∷ []))
 no_obstacle : (limits : Limits) (dropping : Dropping) (ws : List WideRecord) → obstacle_next limits dropping ws pad ≡ None
 no_obstacle limits dropping ws = ap (translated_obstacle limits (narrowed ws)) (handed_pad (reverse ws))
 
-stands_pad : {p : Preparation} {ws : List WideRecord} → Stands p ws → Stands p (ws ++ pad ∷ [])
-stands_pad {p = p} {ws = ws} s = record {
-  reader = subst (Represents held_store p.reader) (sym (narrowed-more ws pad ∙ ap (λ (h : Result (List Record) WideWhy). narrowed ws ++ listed h) (handed_pad (reverse ws)))) (reader_pad p.reader (narrowed ws) s.reader);
+stands_pad : {C : Type 0} {t : Store C} {p : State C} {ws : List WideRecord} → Stands t p ws → Stands t p (ws ++ pad ∷ [])
+stands_pad {t = t} {p = p} {ws = ws} s = record {
+  reader = subst (Represents t p.reader) (sym (narrowed-more ws pad ∙ ap (λ (h : Result (List Record) WideWhy). narrowed ws ++ listed h) (handed_pad (reverse ws)))) (reader_pad t p.reader (narrowed ws) s.reader);
   resolver = s.resolver ∙ sym (kept-more ws pad);
   in_cell = s.in_cell ∙ sym (open-more ws pad);
   report = s.report ∙ sym (report-more ws pad);
@@ -96,9 +91,9 @@ stands_pad {p = p} {ws = ws} s = record {
 
 -- ---- this many of them
 
-pub stands_pads : (count : ℕ) {p : Preparation} {ws : List WideRecord} → Stands p ws → Stands p (ws ++ pads count)
-stands_pads zero {p = p} {ws = ws} s = subst (Stands p) (sym (append-nil ws)) s
-stands_pads (suc count) {p = p} {ws = ws} s = subst (Stands p) (append_assoc ws (pad ∷ []) (pads count)) (stands_pads count (stands_pad s))
+pub stands_pads : {C : Type 0} {t : Store C} (count : ℕ) {p : State C} {ws : List WideRecord} → Stands t p ws → Stands t p (ws ++ pads count)
+stands_pads {t = t} zero {p = p} {ws = ws} s = subst (Stands t p) (sym (append-nil ws)) s
+stands_pads {t = t} (suc count) {p = p} {ws = ws} s = subst (Stands t p) (append_assoc ws (pad ∷ []) (pads count)) (stands_pads count (stands_pad s))
 
 pub prepared_pads : (count : ℕ) (limits : Limits) (dropping : Dropping) (ws : List WideRecord) → AllPrepared limits dropping ws → AllPrepared limits dropping (ws ++ pads count)
 prepared_pads zero limits dropping ws a = subst (AllPrepared limits dropping) (sym (append-nil ws)) a

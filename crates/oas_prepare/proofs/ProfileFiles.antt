@@ -14,28 +14,28 @@ use Rattle.oas_record.specs.declared.records.Record.TheVariants as record_of
 use Rattle.oas_record.specs.declared.references.CellRef.{CellRef}
 use Rattle.oas_record.specs.declared.spots.Spot.{Spot}
 use Rattle.oas_record.specs.Records.{record_in, IsInner as IsInnerRecord}
-use Rattle.oas_layout.specs.declared.limits.Limits.{Limits}
-use Rattle.oas_layout.specs.Meaning.{Meaning, SameLayout}
-use Rattle.oas_narrow.specs.oas_modal.Standing.{open_after}
-use Rattle.oas_narrow.specs.oas_modal.Stands as stands
-use Rattle.oas_narrow.specs.oas_modal.Stands.{is_in_cell, refused_after, records_mean, end_refusal}
-use Rattle.oas_canon.specs.oas_file.Acceptance.{Accepted, Means}
-use Rattle.oas_canon.specs.oas_file.Files.{FileOf}
-use Rattle.oas_narrow.specs.oas_foreign.Steps.{translated_by, kept_after}
-use Rattle.oas_narrow.specs.oas_foreign.Tracked.{tracked}
-use Rattle.oas_narrow.proofs.oas_foreign_proofs.LawLemmas.{tracked_plain, given_plain}
-use Rattle.oas_canon.specs.oas_form.Laws.FormLaws.{form_is_accepted}
-use Rattle.oas_canon.proofs.oas_form_proofs.Forms.{one_canonical_form}
-use Rattle.oas_layout.proofs.LawProofs.{symmetric}
-use Rattle.oas_narrow.specs.oas_wide.declared.blocks.BlockHead.{BlockHead}
-use Rattle.oas_narrow.specs.oas_wide.declared.ends.WideEnd.{WideEnd}
-use Rattle.oas_narrow.specs.oas_wide.declared.ends.Validation.TheVariants.{Unvalidated}
-use Rattle.oas_narrow.specs.oas_wide.declared.heads.WideStart.{WideStart}
-use Rattle.oas_narrow.specs.oas_wide.declared.reasons.WideWhy.{WideWhy}
-use Rattle.oas_narrow.specs.oas_wide.declared.records.WideRecord.{WideRecord}
-use Rattle.oas_narrow.specs.oas_wide.declared.records.WideRecord.TheVariants.{End, Block}
-use Rattle.oas_narrow.specs.oas_wide.WideRecords.{wide_record_in, inner_widened, widened}
-use Rattle.oas_narrow.proofs.oas_wide_proofs.WidenedLemmas.{widen}
+use Rattle.oas_elements.specs.declared.limits.Limits.{Limits}
+use Rattle.oas_elements.specs.Meaning.{Meaning, SameLayout}
+use Rattle.oas_narrow.specs.Standing.{open_after}
+use Rattle.oas_narrow.specs.Stands as stands
+use Rattle.oas_narrow.specs.Stands.{is_in_cell, refused_after, records_mean, end_refusal}
+use Rattle.oas_canon.specs.Acceptance.{Accepted, Means}
+use Rattle.oas_canon.specs.Files.{FileOf}
+use Rattle.oas_narrow.specs.Steps.{translated_by, kept_after}
+use Rattle.oas_narrow.specs.Tracked.{tracked}
+use Rattle.oas_narrow.proofs.LawLemmas.{tracked_plain, given_plain}
+use Rattle.oas_canon.specs.FormLaws.{form_is_accepted}
+use Rattle.oas_canon.proofs.Forms.{one_canonical_form}
+use Rattle.oas_elements.proofs.LawProofs.{symmetric}
+use Rattle.oas_narrow.specs.BlockHead.{BlockHead}
+use Rattle.oas_narrow.specs.WideEnd.{WideEnd}
+use Rattle.oas_narrow.specs.Validation.TheVariants.{Unvalidated}
+use Rattle.oas_narrow.specs.WideStart.{WideStart}
+use Rattle.oas_narrow.specs.WideWhy.{WideWhy}
+use Rattle.oas_narrow.specs.WideRecord.{WideRecord}
+use Rattle.oas_narrow.specs.WideRecord.TheVariants.{End, Block}
+use Rattle.oas_narrow.specs.WideRecords.{wide_record_in, inner_widened, widened}
+use Rattle.oas_narrow.proofs.WidenedLemmas.{widen}
 use Rattle.oas_narrow.specs.declared.dropping.Dropping.{Dropping}
 use Rattle.oas_narrow.specs.declared.dropping.Extra.{Extra}
 use Rattle.oas_narrow.specs.declared.dropping.Extra.TheVariants as extra

@@ -9,12 +9,12 @@ use Rattle.oas_num.specs.Reals.{has_num, has_den, part_of, SpellsReal}
 use Rattle.oas_num.specs.Style.{Any}
 use Rattle.oas_record.specs.declared.heads.Head.{Head}
 use Rattle.oas_record.specs.Heads.{head_in, IsUnit}
-use Rattle.oas_narrow.specs.oas_wide.declared.heads.WideStart.{WideStart}
-use Rattle.oas_narrow.specs.oas_wide.Heads.{IsPositive}
-use Rattle.oas_narrow.specs.oas_wide.Long.{long_unsigned}
-use Rattle.oas_narrow.specs.oas_wide.Reals.{wide_of}
-use Rattle.oas_narrow.proofs.oas_wide_proofs.HeadLemmas.{version_widened, offsets_widened}
-use Rattle.oas_narrow.proofs.oas_wide_proofs.RealLemmas.{real_widened}
+use Rattle.oas_narrow.specs.WideStart.{WideStart}
+use Rattle.oas_narrow.specs.Heads.{IsPositive}
+use Rattle.oas_narrow.specs.Long.{long_unsigned}
+use Rattle.oas_narrow.specs.Reals.{wide_of}
+use Rattle.oas_narrow.proofs.HeadLemmas.{version_widened, offsets_widened}
+use Rattle.oas_narrow.proofs.RealLemmas.{real_widened}
 use Rattle.oas_narrow.specs.Preparable.{IsUnitOf}
 use Rattle.oas_narrow.specs.WideFiles.{wide_head}
 use Rattle.oas_prepare.proofs.Doubling.{times_some}

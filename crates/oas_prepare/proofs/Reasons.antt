@@ -4,14 +4,14 @@ use Rattle.std.specs.Option.{option_or}
 use Rattle.std.specs.Prelude.{cond, Result, Ok, Err}
 use Rattle.oas_num.specs.declared.refusals.Why.{Why}
 use Rattle.oas_record.specs.declared.records.Record.{Record}
-use Rattle.oas_layout.specs.declared.limits.Limits.{Limits}
-use Rattle.oas_narrow.specs.oas_modal.Stands.{refusal}
-use Rattle.oas_canon.proofs.oas_file_proofs.Judged.{refusal_decides}
-use Rattle.oas_narrow.specs.oas_foreign.Laws.{IsReason, Undefined, OffGrid, OtherSide, NoKind, NoShape}
-use Rattle.oas_narrow.proofs.oas_foreign_proofs.ReasonLemmas.{handed_reason}
-use Rattle.oas_narrow.specs.oas_wide.declared.reasons.WideWhy.{WideWhy}
-use Rattle.oas_narrow.specs.oas_wide.declared.reasons.WideWhy.TheVariants as wide
-use Rattle.oas_narrow.specs.oas_wide.declared.records.WideRecord.{WideRecord}
+use Rattle.oas_elements.specs.declared.limits.Limits.{Limits}
+use Rattle.oas_narrow.specs.Stands.{refusal}
+use Rattle.oas_canon.proofs.Judged.{refusal_decides}
+use Rattle.oas_narrow.specs.Laws.{IsReason, Undefined, OffGrid, OtherSide, NoKind, NoShape}
+use Rattle.oas_narrow.proofs.ReasonLemmas.{handed_reason}
+use Rattle.oas_narrow.specs.WideWhy.{WideWhy}
+use Rattle.oas_narrow.specs.WideWhy.TheVariants as wide
+use Rattle.oas_narrow.specs.WideRecord.{WideRecord}
 use Rattle.oas_narrow.specs.declared.dropping.Dropping.{Dropping}
 use Rattle.oas_narrow.specs.declared.dropping.Extra.{Extra}
 use Rattle.oas_narrow.specs.declared.dropping.Extra.TheVariants as extra

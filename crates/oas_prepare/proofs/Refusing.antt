@@ -10,17 +10,17 @@ use Rattle.oas_num.specs.Ratio.{Ratio}
 use Rattle.oas_num.proofs.ReadLemmas.{Consumed-none, Consumed-then, Wants, NoneFits-after, NoneWithin-after}
 use Rattle.oas_num.proofs.PieceLemmas.{whole_piece}
 use Rattle.oas_record.specs.Heads.{magic, IsMagic, MagicMay}
-use Rattle.oas_layout.specs.declared.limits.Limits.{Limits}
-use Rattle.oas_canon.proofs.oas_file_proofs.Judged.{decided_not, decided_uncut, decides_format, format_or_end}
-use Rattle.oas_canon.specs.oas_file.Reading as file
-use Rattle.oas_narrow.specs.oas_wide.declared.heads.WideStart.{WideStart}
-use Rattle.oas_narrow.specs.oas_wide.declared.records.WideRecord.{WideRecord}
-use Rattle.oas_narrow.specs.oas_wide.declared.records.WideRecord.TheVariants.{End, Block}
-use Rattle.oas_narrow.specs.oas_wide.declared.reasons.WideWhy.{WideWhy}
-use Rattle.oas_narrow.specs.oas_wide.declared.reasons.WideWhy.TheVariants as wide
-use Rattle.oas_narrow.specs.oas_wide.Heads.{SpellsWideStart, WideStartTook, wide_start}
-use Rattle.oas_narrow.specs.oas_wide.Reasons.{plain_of}
-use Rattle.oas_narrow.specs.oas_wide.WideRecords.{FailsWide}
+use Rattle.oas_elements.specs.declared.limits.Limits.{Limits}
+use Rattle.oas_canon.proofs.Judged.{decided_not, decided_uncut, decides_format, format_or_end}
+use Rattle.oas_canon.specs.Reading as file
+use Rattle.oas_narrow.specs.WideStart.{WideStart}
+use Rattle.oas_narrow.specs.WideRecord.{WideRecord}
+use Rattle.oas_narrow.specs.WideRecord.TheVariants.{End, Block}
+use Rattle.oas_narrow.specs.WideWhy.{WideWhy}
+use Rattle.oas_narrow.specs.WideWhy.TheVariants as wide
+use Rattle.oas_narrow.specs.Heads.{SpellsWideStart, WideStartTook, wide_start}
+use Rattle.oas_narrow.specs.Reasons.{plain_of}
+use Rattle.oas_narrow.specs.WideRecords.{FailsWide}
 use Rattle.oas_narrow.specs.declared.dropping.Dropping.{Dropping}
 use Rattle.oas_narrow.specs.declared.places.Place.{Place}
 use Rattle.oas_narrow.specs.declared.places.Place.TheVariants.{File}

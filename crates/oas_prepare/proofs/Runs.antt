@@ -4,7 +4,7 @@ use Rattle.std.specs.Prelude.{replicate}
 use Rattle.std.proofs.lemmas.List.{append-nil}
 use Rattle.oas_num.specs.Grammar.{PrefixFree, IsEach}
 use Rattle.oas_num.specs.Laws.GrammarLaws.{after_same}
-use Rattle.oas_narrow.specs.oas_wide.declared.records.WideRecord.{WideRecord}
+use Rattle.oas_narrow.specs.WideRecord.{WideRecord}
 use Rattle.oas_narrow.specs.WideFiles.{inner_in}
 use Rattle.oas_prepare.specs.Places.{pads, NoPadLast}
 use Rattle.oas_prepare.proofs.Items.{inner_some}

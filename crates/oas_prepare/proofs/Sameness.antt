@@ -1,16 +1,16 @@
 -- Two files that are prepared: their canonical files are equal exactly if both mean the same layout.
 use Rattle.std.proofs.Common.{◌≡◌, ◌↔◌, ℕ, List, subst}
 use Rattle.oas_num.specs.Script.{Script}
-use Rattle.oas_layout.specs.declared.limits.Limits.{Limits}
-use Rattle.oas_layout.specs.declared.profile.Profile.{Profile}
-use Rattle.oas_layout.specs.Contents.{Contents, IsLayout, meaning_of}
-use Rattle.oas_layout.specs.Meaning.{Meaning, SameLayout}
-use Rattle.oas_layout.proofs.LawProofs.{reflexive, symmetric, transitive}
-use Rattle.oas_canon.specs.oas_file.Acceptance.{Means}
-use Rattle.oas_canon.specs.oas_file.Laws.FileLaws.{means_one}
-use Rattle.oas_canon.specs.oas_form.Bytes.{canonical_bytes}
-use Rattle.oas_canon.proofs.oas_form_proofs.Forms.{one_canonical_form}
-use Rattle.oas_canon.proofs.oas_form_proofs.Written.{canonical_form}
+use Rattle.oas_elements.specs.declared.limits.Limits.{Limits}
+use Rattle.oas_elements.specs.declared.profile.Profile.{Profile}
+use Rattle.oas_elements.specs.Contents.{Contents, meaning_of}
+use Rattle.oas_elements.specs.Meaning.{Meaning, SameLayout}
+use Rattle.oas_elements.proofs.LawProofs.{reflexive, symmetric, transitive}
+use Rattle.oas_canon.specs.Acceptance.{Means}
+use Rattle.oas_canon.specs.FileLaws.{means_one}
+use Rattle.oas_canon.specs.Bytes.{canonical_bytes}
+use Rattle.oas_canon.proofs.Forms.{one_canonical_form}
+use Rattle.oas_canon.proofs.Written.{canonical_form}
 use Rattle.oas_narrow.specs.declared.dropping.Dropping.{Dropping}
 use Rattle.oas_narrow.specs.declared.dropping.Report.{Report}
 use Rattle.oas_prepare.specs.Finishing.{IsReadPrepared}
@@ -35,12 +35,12 @@ module _ {limits : Limits} {profile : Profile} {dropping : Dropping} where
 
   -- the same for the layouts that were read
   pub equal_exactly : {old new mid last : Script} {l k : Contents} {r s : Report} → IsReadPrepared limits profile dropping old l r new → IsReadPrepared limits profile dropping mid k s last →
-      IsLayout l → IsLayout k → (canonical_bytes (meaning_of l) ≡ canonical_bytes (meaning_of k)) ↔ SameLayout profile (meaning_of l) (meaning_of k)
-  equal_exactly {l = l} {k = k} one other held kept =
+      (canonical_bytes (meaning_of l) ≡ canonical_bytes (meaning_of k)) ↔ SameLayout profile (meaning_of l) (meaning_of k)
+  equal_exactly {l = l} {k = k} one other =
       let m = meaning_of l in
       let n = meaning_of k in
-      let p = (canonical_form l held).1 in
-      let q = (canonical_form k kept).1 in (
+      let p = (canonical_form l one.layout).1 in
+      let q = (canonical_form k other.layout).1 in (
         same_meanings profile (canonical_bytes m) (canonical_bytes n) m n p q,
-        one_canonical_form limits limits profile (canonical_bytes m) (canonical_bytes n) m n (taken one held).is.form (taken other kept).is.form p q,
+        one_canonical_form limits limits profile (canonical_bytes m) (canonical_bytes n) m n (taken one).is.form (taken other).is.form p q,
       )

@@ -1,45 +1,42 @@
 -- A whole file, from what was gathered to what was written.
 use Rattle.oas_num.specs.Devices.{Calls}
-use Rattle.std.proofs.Common.{◌≡◌, ℕ, ◌⊎◌, inl, inr, List, ◌++◌, Option, Some, None, Result, Ok, Err, IsTrue, refl, sym, ◌∙◌, ap, subst, arith}
-use Rattle.oas_sums.specs.oas_checksum.Signed.{signed}
-use Rattle.oas_sums.specs.Sums.{AreSums}
+use Rattle.std.proofs.Common.{◌≡◌, ℕ, ◌⊎◌, inl, inr, List, ◌++◌, Option, Some, None, Result, Ok, Err, refl, sym, ◌∙◌, ap, subst, arith}
+use Rattle.oas_narrow.specs.Signed.{signed}
+use Rattle.oas_narrow.specs.Sums.{AreSums}
 use Rattle.oas_num.specs.declared.refusals.Why.TheVariants.{Write, Memory}
 use Rattle.oas_num.specs.declared.refusals.Refusal.{Refusal}
 use Rattle.oas_num.specs.Script.{Script, Rest, Gave, Consumed}
 use Rattle.oas_num.specs.Written.{IsWritten, IsCutOff}
-use Rattle.oas_layout.specs.declared.limits.Limits.{Limits}
-use Rattle.oas_layout.specs.declared.profile.Profile.{Profile}
-use Rattle.oas_layout.specs.Contents.{Contents, IsLayout, meaning_of}
-use Rattle.oas_layout.specs.Meaning.{SameLayout}
-use Rattle.oas_layout.proofs.LawProofs.{symmetric}
-use Rattle.oas_narrow.specs.oas_modal.Stands.{records_mean}
-use Rattle.oas_canon.specs.oas_form.Bytes.{canonical_bytes}
-use Rattle.oas_canon.specs.oas_form.Canonical.{CanonicalForm}
-use Rattle.oas_canon.proofs.oas_form_proofs.Written.{canonical_form}
+use Rattle.oas_elements.specs.declared.limits.Limits.{Limits}
+use Rattle.oas_elements.specs.declared.profile.Profile.{Profile}
+use Rattle.oas_elements.specs.Contents.{Contents, meaning_of}
+use Rattle.oas_narrow.specs.Stands.{records_mean}
+use Rattle.oas_canon.specs.Bytes.{canonical_bytes}
+use Rattle.oas_canon.specs.Canonical.{CanonicalForm}
+use Rattle.oas_canon.specs.Compact.{compact_store}
+use Rattle.oas_canon.proofs.Written.{canonical_form}
 use Rattle.oas_canon.proofs.Whole.{Cause, Bytes, End, Device, Limit, Writer, Room, cause_of, all_given, within_not}
-use Rattle.oas_narrow.specs.oas_wide.declared.reasons.WideWhy.{WideWhy}
-use Rattle.oas_narrow.specs.oas_wide.declared.reasons.WideWhy.TheVariants as wide
-use Rattle.oas_narrow.specs.oas_wide.Reasons.{plain_of}
+use Rattle.oas_narrow.specs.WideWhy.{WideWhy}
+use Rattle.oas_narrow.specs.WideWhy.TheVariants as wide
+use Rattle.oas_narrow.specs.Reasons.{plain_of}
 use Rattle.oas_narrow.specs.declared.dropping.Dropping.{Dropping}
 use Rattle.oas_narrow.specs.declared.dropping.Report.{Report}
 use Rattle.oas_narrow.specs.declared.places.Place.TheVariants.{File}
 use Rattle.oas_narrow.specs.declared.places.Rejection.{Rejection}
 use Rattle.oas_narrow.specs.Narrowing.{narrowed}
-use Rattle.oas_narrow.specs.Preparable.{IsValid, Preparable}
+use Rattle.oas_narrow.specs.Preparable.{Preparable}
 use Rattle.oas_narrow.specs.Rejections.{refused}
-use Rattle.oas_prepare.specs.declared.gathering.Gathered.{Gathered}
-use Rattle.oas_prepare.specs.Deciding.{decides}
-use Rattle.oas_prepare.specs.Finishing.{IsFinished, StopsAtEnd, Broken, Torn, Finishes, IsReadPrepared, ReadsPrepared}
+use Rattle.oas_prepare.specs.Finishing.{GatheredKeys, IsFinished, StopsAtEnd, Broken, Torn, Finishes, IsReadPrepared, ReadsPrepared}
 use Rattle.oas_prepare.specs.Gathering.{IsGathered}
 use Rattle.oas_prepare.specs.Run.{IsPreparedAs, IsTaken, IsDone, IsCut, IsStopped, Stops, IsDecided, IsWithinSource, Exactly}
 use Rattle.oas_prepare.proofs.Ending.{whole_stops, signed_stops, formed}
 
 -- ---- what was gathered
 
-module _ {limits : Limits} {profile : Profile} {dropping : Dropping} {old new : Script} {g : Gathered} (m : IsGathered limits profile dropping old g new) (sums : ℕ × ℕ) (summed : (bytes : List ℕ) → Consumed old bytes new → AreSums sums (signed bytes)) where
-  read_done : {l : Contents} {report : Report} → IsFinished g sums m.records l report → IsReadPrepared limits profile dropping old l report new
+module _ (profile : Profile) {limits : Limits} {dropping : Dropping} {old new : Script} {g : GatheredKeys} (m : IsGathered (compact_store profile) limits dropping old g new) (sums : ℕ × ℕ) (summed : (bytes : List ℕ) → Consumed old bytes new → AreSums sums (signed bytes)) where
+  read_done : {l : Contents} {report : Report} → IsFinished profile g sums m.records l report → IsReadPrepared limits profile dropping old l report new
   unfolding formed
-  read_done {l = l} f = record {
+  read_done f = record {
     bytes = m.bytes ++ m.last;
     takes = m.takes;
     ended = m.ended;
@@ -55,10 +52,10 @@ module _ {limits : Limits} {profile : Profile} {dropping : Dropping} {old new : 
       is_unit = m.is_unit;
       is = refl;
     };
-    same = symmetric profile (meaning_of l) (records_mean g.preparation.reader.unit (narrowed m.records))
-        (subst (λ (p : Profile). SameLayout p (meaning_of l) (records_mean g.preparation.reader.unit (narrowed m.records))) m.by f.same);
-    within = f.within ∙ m.within;
-    by = f.by ∙ m.by;
+    same = f.layout.same;
+    layout = f.layout.layout;
+    within = f.layout.within ∙ m.within;
+    by = f.layout.by;
     left_out = f.left_out;
   }
 
@@ -70,15 +67,15 @@ module _ {limits : Limits} {profile : Profile} {dropping : Dropping} {old new : 
       subst (λ (x : Rejection). Stops limits dropping old x new) (sym is)
       (whole_stops m refusal (right (m.bytes ++ m.last) (summed (m.bytes ++ m.last) m.takes)) (at, reason))
 
-  pub finished : (result : Result (Contents × Report) Rejection) → Finishes g sums result → ReadsPrepared limits profile dropping old result new
+  pub finished : (result : Result (Contents × Report) Rejection) → Finishes profile g sums result → ReadsPrepared limits profile dropping old result new
   finished (Ok both) f = read_done (f m.records m.stands)
   finished (Err e) f = read_stops e (f m.records m.stands)
 
 -- ---- what was written
 
-module _ {limits : Limits} {profile : Profile} {dropping : Dropping} {old new : Script} {l : Contents} {report : Report} (read : IsReadPrepared limits profile dropping old l report new) (held : IsLayout l) where
+module _ {limits : Limits} {profile : Profile} {dropping : Dropping} {old new : Script} {l : Contents} {report : Report} (read : IsReadPrepared limits profile dropping old l report new) where
   form : CanonicalForm limits profile (canonical_bytes (meaning_of l))
-  form = subst (λ (p : Limits × Profile). CanonicalForm p.0 p.1 (canonical_bytes (meaning_of l))) (λ i. (read.within i, read.by i)) (canonical_form l held).0
+  form = subst (λ (p : Limits × Profile). CanonicalForm p.0 p.1 (canonical_bytes (meaning_of l))) (λ i. (read.within i, read.by i)) (canonical_form l read.layout).0
 
   prepared_as : IsPreparedAs limits profile dropping read.bytes (canonical_bytes (meaning_of l)) report
   prepared_as = record {
@@ -87,7 +84,7 @@ module _ {limits : Limits} {profile : Profile} {dropping : Dropping} {old new : 
     source = read.meaning;
     target = meaning_of l;
     means = read.means;
-    becomes = (canonical_form l held).1;
+    becomes = (canonical_form l read.layout).1;
     same = read.same;
     left_out = read.left_out;
   }

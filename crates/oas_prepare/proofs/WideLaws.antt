@@ -7,14 +7,14 @@ use Rattle.oas_num.specs.Grammar.{PrefixFree, IsPair}
 use Rattle.oas_num.specs.Laws.GrammarLaws.{PrefixFree-pair, PrefixFree-such, PrefixFree-image}
 use Rattle.oas_num.specs.Laws.CombinatorLaws.{PrefixFree-exactly}
 use Rattle.oas_record.specs.Heads.{magic, IsMagic}
-use Rattle.oas_narrow.specs.oas_wide.declared.ends.WideEnd.{WideEnd}
-use Rattle.oas_narrow.specs.oas_wide.declared.reasons.WideWhy.{WideWhy}
-use Rattle.oas_narrow.specs.oas_wide.declared.records.WideRecord.{WideRecord}
-use Rattle.oas_narrow.specs.oas_wide.declared.records.WideRecord.TheVariants.{End}
-use Rattle.oas_narrow.specs.oas_wide.Heads.{SpellsWideStart, wide_start}
-use Rattle.oas_narrow.specs.oas_wide.Long.{IsLong, PrefixFree-long}
-use Rattle.oas_narrow.specs.oas_wide.Reasons.{named, plain_of}
-use Rattle.oas_narrow.specs.oas_wide.WideRecords.{fields, fields_in, wide_record_in, WideIdTook, WideRecordTook}
+use Rattle.oas_narrow.specs.WideEnd.{WideEnd}
+use Rattle.oas_narrow.specs.WideWhy.{WideWhy}
+use Rattle.oas_narrow.specs.WideRecord.{WideRecord}
+use Rattle.oas_narrow.specs.WideRecord.TheVariants.{End}
+use Rattle.oas_narrow.specs.Heads.{SpellsWideStart, wide_start}
+use Rattle.oas_narrow.specs.Long.{IsLong, PrefixFree-long}
+use Rattle.oas_narrow.specs.Reasons.{named, plain_of}
+use Rattle.oas_narrow.specs.WideRecords.{fields, fields_in, wide_record_in, WideIdTook, WideRecordTook}
 use Rattle.oas_narrow.specs.WideFiles.{wide_head, after_magic, IsInner, inner_in, end_in}
 
 pub PrefixFree-wide : (in_end : Bool) → PrefixFree (wide_record_in in_end)

@@ -2,12 +2,12 @@
 use Rattle.std.proofs.Common.{◌≡◌, ◌*◌, ◌^◌, List, [], refl, sym, ap, subst, ◌∙◌}
 use Rattle.oas_num.specs.Laws.RatioLaws.{one_lowest}
 use Rattle.oas_num.specs.Ratio.{Ratio}
-use Rattle.oas_layout.specs.Meaning.{Meaning, SameLayout}
-use Rattle.oas_layout.proofs.LawProofs.{symmetric, transitive}
-use Rattle.oas_narrow.specs.oas_modal.Stands.{records_mean}
-use Rattle.oas_canon.proofs.oas_form_proofs.Forms.{one_canonical_form}
-use Rattle.oas_narrow.specs.oas_wide.declared.heads.WideStart.{WideStart}
-use Rattle.oas_narrow.specs.oas_wide.declared.records.WideRecord.{WideRecord}
+use Rattle.oas_elements.specs.Meaning.{Meaning, SameLayout}
+use Rattle.oas_elements.proofs.LawProofs.{symmetric, transitive}
+use Rattle.oas_narrow.specs.Stands.{records_mean}
+use Rattle.oas_canon.proofs.Forms.{one_canonical_form}
+use Rattle.oas_narrow.specs.WideStart.{WideStart}
+use Rattle.oas_narrow.specs.WideRecord.{WideRecord}
 use Rattle.oas_narrow.specs.Narrowing.{narrowed}
 use Rattle.oas_narrow.specs.Preparable.{IsUnitOf}
 use Rattle.oas_narrow.specs.WideFiles.{WideParts}

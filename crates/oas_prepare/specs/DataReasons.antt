@@ -4,18 +4,18 @@ use Rattle.oas_num.specs.declared.refusals.Why.TheVariants as why
 use Rattle.oas_num.specs.Grammar.{IsEach}
 use Rattle.oas_num.specs.Reading.{NoneWithin}
 use Rattle.oas_num.specs.Script.{Script}
-use Rattle.oas_narrow.specs.oas_block.declared.block.BlockEnd.{BlockEnd}
-use Rattle.oas_narrow.specs.oas_block.declared.block.BlockEnd.TheVariants.{Whole, Unfinished, Other}
-use Rattle.oas_narrow.specs.oas_block.declared.faults.BlockFault.{BlockFault}
-use Rattle.oas_narrow.specs.oas_block.declared.faults.BlockFault.TheVariants as fault
-use Rattle.oas_narrow.specs.oas_block.Reading.{EndsBlock, FailsBlock}
-use Rattle.oas_layout.specs.declared.limits.Limits.{Limits}
-use Rattle.oas_narrow.specs.oas_wide.declared.blocks.BlockHead.{BlockHead}
-use Rattle.oas_narrow.specs.oas_wide.declared.ends.WideEnd.{WideEnd}
-use Rattle.oas_narrow.specs.oas_wide.declared.reasons.WideWhy.{WideWhy}
-use Rattle.oas_narrow.specs.oas_wide.declared.reasons.WideWhy.TheVariants as wide
-use Rattle.oas_narrow.specs.oas_wide.declared.records.WideRecord.{WideRecord}
-use Rattle.oas_narrow.specs.oas_wide.WideRecords.{wide_record_in, WideRecordTook}
+use Rattle.oas_narrow.specs.BlockEnd.{BlockEnd}
+use Rattle.oas_narrow.specs.BlockEnd.TheVariants.{Whole, Unfinished, Other}
+use Rattle.oas_narrow.specs.BlockFault.{BlockFault}
+use Rattle.oas_narrow.specs.BlockFault.TheVariants as fault
+use Rattle.oas_narrow.specs.Reading.{EndsBlock, FailsBlock}
+use Rattle.oas_elements.specs.declared.limits.Limits.{Limits}
+use Rattle.oas_narrow.specs.BlockHead.{BlockHead}
+use Rattle.oas_narrow.specs.WideEnd.{WideEnd}
+use Rattle.oas_narrow.specs.WideWhy.{WideWhy}
+use Rattle.oas_narrow.specs.WideWhy.TheVariants as wide
+use Rattle.oas_narrow.specs.WideRecord.{WideRecord}
+use Rattle.oas_narrow.specs.WideRecords.{wide_record_in, WideRecordTook}
 use Rattle.oas_narrow.specs.declared.dropping.Dropping.{Dropping}
 use Rattle.oas_narrow.specs.declared.places.Place.{Place}
 use Rattle.oas_narrow.specs.declared.places.Place.TheVariants.{File, Block}

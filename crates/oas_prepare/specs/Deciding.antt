@@ -1,9 +1,9 @@
 -- Which reasons the bytes decide, by the reasons of the profile in their place.
 use Rattle.std.specs.Prelude.{Bool}
-use Rattle.oas_canon.specs.oas_file.Reading as file
+use Rattle.oas_canon.specs.Reading as file
 use Rattle.oas_num.specs.Reading as num
-use Rattle.oas_narrow.specs.oas_wide.declared.reasons.WideWhy.{WideWhy}
-use Rattle.oas_narrow.specs.oas_wide.Reasons.{plain_of}
+use Rattle.oas_narrow.specs.WideWhy.{WideWhy}
+use Rattle.oas_narrow.specs.Reasons.{plain_of}
 
 -- the bytes decided, and not the source's end, a device or the memory
 abbrev pub decides : WideWhy → Bool

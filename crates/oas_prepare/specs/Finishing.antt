@@ -3,13 +3,15 @@ use Rattle.std.specs.Prelude.{◌≡◌, ℕ, List, None, Some, Result, Ok, Err,
 use Rattle.oas_num.specs.declared.refusals.Refusal.{Refusal}
 use Rattle.oas_num.specs.declared.refusals.Why.TheVariants.{Memory}
 use Rattle.oas_num.specs.Script.{Script, Consumed, IsAtEnd}
-use Rattle.oas_layout.specs.declared.limits.Limits.{Limits}
-use Rattle.oas_layout.specs.declared.profile.Profile.{Profile}
-use Rattle.oas_layout.specs.Contents.{Contents, meaning_of}
-use Rattle.oas_layout.specs.Meaning.{Meaning, SameLayout}
-use Rattle.oas_narrow.specs.oas_modal.Stands.{records_mean, end_refusal}
-use Rattle.oas_narrow.specs.oas_wide.declared.reasons.WideWhy.TheVariants as wide
-use Rattle.oas_narrow.specs.oas_wide.declared.records.WideRecord.{WideRecord}
+use Rattle.oas_elements.specs.declared.limits.Limits.{Limits}
+use Rattle.oas_elements.specs.declared.profile.Profile.{Profile}
+use Rattle.oas_elements.specs.Contents.{Contents, IsLayout, meaning_of}
+use Rattle.oas_elements.specs.Meaning.{Meaning, SameLayout}
+use Rattle.oas_canon.specs.LayoutOf.{IsLayoutOf}
+use Rattle.oas_canon.specs.Compact.{Compact, compact_store}
+use Rattle.oas_narrow.specs.Stands.{ReaderState, records_mean, end_refusal}
+use Rattle.oas_narrow.specs.WideWhy.TheVariants as wide
+use Rattle.oas_narrow.specs.WideRecord.{WideRecord}
 use Rattle.oas_narrow.specs.declared.dropping.Dropping.{Dropping}
 use Rattle.oas_narrow.specs.declared.dropping.Report.{Report}
 use Rattle.oas_narrow.specs.declared.places.Rejection.{Rejection}
@@ -22,24 +24,26 @@ use Rattle.oas_prepare.specs.Run.{Stops}
 use Rattle.oas_prepare.specs.Signing.{IsRight, IsWrong}
 use Rattle.oas_prepare.specs.Taking.{Stands}
 
+-- all that was gathered, by a reader over cells that are held as keys
+abbrev pub GatheredKeys : Type 0
+GatheredKeys = Gathered (ReaderState Compact)
+
 -- the layout is the meaning of these records, which END doesn't refuse
-pub record IsFinished (g : Gathered) (sums : ℕ × ℕ) (ws : List WideRecord) (l : Contents) (report : Report) : Type 0 where
+pub record IsFinished (profile : Profile) (g : GatheredKeys) (sums : ℕ × ℕ) (ws : List WideRecord) (l : Contents) (report : Report) : Type 0 where
   pub right : IsRight g.end.validation sums
   pub whole : end_refusal g.preparation.reader.limits (narrowed ws) ≡ None
-  pub same : SameLayout g.preparation.reader.profile (meaning_of l) (records_mean g.preparation.reader.unit (narrowed ws))
-  pub within : l.limits ≡ g.preparation.reader.limits
-  pub by : l.profile ≡ g.preparation.reader.profile
+  pub layout : IsLayoutOf profile g.preparation.reader.limits (records_mean g.preparation.reader.unit (narrowed ws)) l
   pub left_out : report ≡ report_of ws
 
 -- it stops at END, where its signature is wrong, out of memory, or where it refuses the records
-pub data StopsAtEnd (g : Gathered) (sums : ℕ × ℕ) (ws : List WideRecord) (e : Rejection) : Type 0 where
+pub data StopsAtEnd (g : GatheredKeys) (sums : ℕ × ℕ) (ws : List WideRecord) (e : Rejection) : Type 0 where
   Broken : IsWrong g.end.validation sums → e ≡ at_file g.at wide.Checksum → StopsAtEnd g sums ws e
   Torn : (refusal : Refusal) → e ≡ refused refusal → refusal.at ≡ g.at → IsRight g.end.validation sums → (refusal.why ≡ Memory) ⊎ (end_refusal g.preparation.reader.limits (narrowed ws) ≡ Some refusal.why) → StopsAtEnd g sums ws e
 
 -- the sums are those of the file's bytes before a signature
-abbrev pub Finishes : Gathered → ℕ × ℕ → Result (Contents × Report) Rejection → Type 0
-Finishes g sums (Ok both) = (ws : List WideRecord) → Stands g.preparation ws → IsFinished g sums ws both.0 both.1
-Finishes g sums (Err e) = (ws : List WideRecord) → Stands g.preparation ws → StopsAtEnd g sums ws e
+abbrev pub Finishes : Profile → GatheredKeys → ℕ × ℕ → Result (Contents × Report) Rejection → Type 0
+Finishes profile g sums (Ok both) = (ws : List WideRecord) → Stands (compact_store profile) g.preparation ws → IsFinished profile g sums ws both.0 both.1
+Finishes profile g sums (Err e) = (ws : List WideRecord) → Stands (compact_store profile) g.preparation ws → StopsAtEnd g sums ws e
 
 -- all that the source gave is a file that is prepared, with this layout, and that is left out
 pub record IsReadPrepared (limits : Limits) (profile : Profile) (dropping : Dropping) (old : Script) (l : Contents) (report : Report) (new : Script) : Type 0 where
@@ -51,6 +55,7 @@ pub record IsReadPrepared (limits : Limits) (profile : Profile) (dropping : Drop
   pub meaning : Meaning
   pub means : WideMeans bytes meaning
   pub same : SameLayout profile meaning (meaning_of l)
+  pub layout : IsLayout l
   pub within : l.limits ≡ limits
   pub by : l.profile ≡ profile
   pub left_out : report ≡ report_of formed.records

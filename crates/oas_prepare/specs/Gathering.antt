@@ -2,23 +2,23 @@
 use Rattle.std.specs.Prelude.{◌≡◌, ℕ, Bool, ◌+◌, List, ◌++◌, length, Result, Ok, Err}
 use Rattle.oas_num.specs.Reading.{ReadsValue}
 use Rattle.oas_num.specs.Script.{Script, Consumed, IsAtEnd}
-use Rattle.oas_narrow.specs.oas_wide.declared.ends.WideEnd.{WideEnd}
-use Rattle.oas_narrow.specs.oas_wide.declared.heads.WideStart.{WideStart}
-use Rattle.oas_narrow.specs.oas_wide.declared.records.WideRecord.{WideRecord}
-use Rattle.oas_layout.specs.declared.limits.Limits.{Limits}
+use Rattle.oas_narrow.specs.Stands.{ReaderState}
+use Rattle.oas_narrow.specs.Stores.{Store}
+use Rattle.oas_narrow.specs.WideEnd.{WideEnd}
+use Rattle.oas_narrow.specs.WideStart.{WideStart}
+use Rattle.oas_narrow.specs.WideRecord.{WideRecord}
+use Rattle.oas_elements.specs.declared.limits.Limits.{Limits}
 use Rattle.oas_narrow.specs.declared.dropping.Dropping.{Dropping}
 use Rattle.oas_narrow.specs.declared.places.Rejection.{Rejection}
 use Rattle.oas_narrow.specs.Preparable.{IsUnitOf, AllPrepared}
 use Rattle.oas_narrow.specs.WideFiles.{WidePrefixOf, inner_in, end_in, head_in}
-use Rattle.oas_layout.specs.declared.profile.Profile.{Profile}
-use Rattle.oas_narrow.specs.oas_wide.declared.reasons.WideRefusal.{WideRefusal}
-use Rattle.oas_narrow.specs.oas_wide.WideRecords.{FailsWide}
+use Rattle.oas_narrow.specs.WideRefusal.{WideRefusal}
+use Rattle.oas_narrow.specs.WideRecords.{FailsWide}
 use Rattle.oas_prepare.specs.declared.gathering.Gathered.{Gathered}
 use Rattle.oas_prepare.specs.declared.gathering.Next.{Next}
 use Rattle.oas_prepare.specs.declared.gathering.Next.TheVariants.{Record, End, Block}
-use Rattle.oas_prepare.specs.declared.taking.Preparation.{Preparation}
 use Rattle.oas_prepare.specs.Run.{Stops}
-use Rattle.oas_prepare.specs.Taking.{Stands, SameRun}
+use Rattle.oas_prepare.specs.Taking.{State, Stands, SameRun}
 
 -- ---- one record
 
@@ -31,52 +31,53 @@ ConsumesNext in_end old (Err refusal) new = (refusal.at ≡ old.given) × FailsW
 
 -- ---- all records
 
--- the head and some records were taken, and this is the result
-pub record HasGathered (origin : Script) (start : WideStart) (first : Preparation) (now : Script) (p : Preparation) : Type 0 where
-  pub records : List WideRecord
-  pub bytes : List ℕ
-  pub takes : Consumed origin bytes now
-  pub front : WidePrefixOf start records bytes
-  pub prepared : AllPrepared first.reader.limits first.dropping records
-  pub stands : Stands p records
-  pub same : SameRun first p
+module _ {C : Type 0} where
+  -- the head and some records were taken, and this is the result
+  pub record HasGathered (t : Store C) (origin : Script) (start : WideStart) (first : State C) (now : Script) (p : State C) : Type 0 where
+    pub records : List WideRecord
+    pub bytes : List ℕ
+    pub takes : Consumed origin bytes now
+    pub front : WidePrefixOf start records bytes
+    pub prepared : AllPrepared first.reader.limits first.dropping records
+    pub stands : Stands t p records
+    pub same : SameRun first p
 
--- the head, all records and END were taken; END begins at that offset
-pub record HasAll (origin : Script) (start : WideStart) (first : Preparation) (at : ℕ) (end : WideEnd) (now : Script) (p : Preparation) : Type 0 where
-  pub records : List WideRecord
-  pub bytes : List ℕ
-  pub last : List ℕ
-  pub takes : Consumed origin (bytes ++ last) now
-  pub front : WidePrefixOf start records bytes
-  pub ends : end_in start.flag_in_end end last
-  pub place : at ≡ origin.given + length bytes
-  pub prepared : AllPrepared first.reader.limits first.dropping records
-  pub stands : Stands p records
-  pub same : SameRun first p
+  -- the head, all records and END were taken; END begins at that offset
+  pub record HasAll (t : Store C) (origin : Script) (start : WideStart) (first : State C) (at : ℕ) (end : WideEnd) (now : Script) (p : State C) : Type 0 where
+    pub records : List WideRecord
+    pub bytes : List ℕ
+    pub last : List ℕ
+    pub takes : Consumed origin (bytes ++ last) now
+    pub front : WidePrefixOf start records bytes
+    pub ends : end_in start.flag_in_end end last
+    pub place : at ≡ origin.given + length bytes
+    pub prepared : AllPrepared first.reader.limits first.dropping records
+    pub stands : Stands t p records
+    pub same : SameRun first p
 
-abbrev pub Gathers : WideStart → Script → Preparation → Result (ℕ × WideEnd) Rejection → Script → Preparation → Type 0
-Gathers start old first (Ok ended) new p = (origin : Script) → HasGathered origin start first old first → HasAll origin start first ended.0 ended.1 new p
-Gathers start old first (Err e) new p = (origin : Script) → HasGathered origin start first old first → Stops first.reader.limits first.dropping origin e new
+  abbrev pub Gathers : Store C → WideStart → Script → State C → Result (ℕ × WideEnd) Rejection → Script → State C → Type 0
+  Gathers t start old first (Ok ended) new p = (origin : Script) → HasGathered t origin start first old first → HasAll t origin start first ended.0 ended.1 new p
+  Gathers t start old first (Err e) new p = (origin : Script) → HasGathered t origin start first old first → Stops first.reader.limits first.dropping origin e new
 
 -- ---- the whole file
 
--- all that the source gave is a file with these records, and this is the result; END begins at that offset
-pub record IsGathered (limits : Limits) (profile : Profile) (dropping : Dropping) (old : Script) (g : Gathered) (new : Script) : Type 0 where
-  pub start : WideStart
-  pub records : List WideRecord
-  pub bytes : List ℕ
-  pub last : List ℕ
-  pub takes : Consumed old (bytes ++ last) new
-  pub ended : IsAtEnd new
-  pub front : WidePrefixOf start records bytes
-  pub ends : end_in start.flag_in_end g.end last
-  pub place : g.at ≡ old.given + length bytes
-  pub is_unit : IsUnitOf start.unit g.preparation.reader.unit
-  pub prepared : AllPrepared limits dropping records
-  pub stands : Stands g.preparation records
-  pub within : g.preparation.reader.limits ≡ limits
-  pub by : g.preparation.reader.profile ≡ profile
+module _ {C : Type 0} where
+  -- all that the source gave is a file with these records, and this is the result; END begins at that offset
+  pub record IsGathered (t : Store C) (limits : Limits) (dropping : Dropping) (old : Script) (g : Gathered (ReaderState C)) (new : Script) : Type 0 where
+    pub start : WideStart
+    pub records : List WideRecord
+    pub bytes : List ℕ
+    pub last : List ℕ
+    pub takes : Consumed old (bytes ++ last) new
+    pub ended : IsAtEnd new
+    pub front : WidePrefixOf start records bytes
+    pub ends : end_in start.flag_in_end g.end last
+    pub place : g.at ≡ old.given + length bytes
+    pub is_unit : IsUnitOf start.unit g.preparation.reader.unit
+    pub prepared : AllPrepared limits dropping records
+    pub stands : Stands t g.preparation records
+    pub within : g.preparation.reader.limits ≡ limits
 
-abbrev pub GathersFile : Limits → Profile → Dropping → Script → Result Gathered Rejection → Script → Type 0
-GathersFile limits profile dropping old (Ok g) new = IsGathered limits profile dropping old g new
-GathersFile limits profile dropping old (Err e) new = Stops limits dropping old e new
+  abbrev pub GathersFile : Store C → Limits → Dropping → Script → Result (Gathered (ReaderState C)) Rejection → Script → Type 0
+  GathersFile t limits dropping old (Ok g) new = IsGathered t limits dropping old g new
+  GathersFile t limits dropping old (Err e) new = Stops limits dropping old e new

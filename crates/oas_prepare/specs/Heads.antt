@@ -2,8 +2,8 @@
 use Rattle.std.specs.Prelude.{List, [], Result, Ok, Err, ℕ}
 use Rattle.oas_num.specs.Ratio.{Ratio}
 use Rattle.oas_num.specs.Script.{Script, Consumed}
-use Rattle.oas_narrow.specs.oas_wide.declared.heads.WideStart.{WideStart}
-use Rattle.oas_layout.specs.declared.limits.Limits.{Limits}
+use Rattle.oas_narrow.specs.WideStart.{WideStart}
+use Rattle.oas_elements.specs.declared.limits.Limits.{Limits}
 use Rattle.oas_narrow.specs.declared.dropping.Dropping.{Dropping}
 use Rattle.oas_narrow.specs.declared.places.Rejection.{Rejection}
 use Rattle.oas_narrow.specs.Preparable.{IsUnitOf}

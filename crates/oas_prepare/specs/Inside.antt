@@ -4,27 +4,27 @@ use Rattle.oas_num.specs.declared.refusals.Why.TheVariants as why
 use Rattle.oas_num.specs.Grammar.{IsEach}
 use Rattle.oas_num.specs.Reading.{ReadsValue}
 use Rattle.oas_num.specs.Script.{Script, Consumed, IsAtEnd, HasFailed, IsTooLong}
-use Rattle.oas_narrow.specs.oas_block.declared.block.BlockEnd.{BlockEnd}
-use Rattle.oas_narrow.specs.oas_block.declared.block.BlockEnd.TheVariants.{Whole}
-use Rattle.oas_narrow.specs.oas_block.Blocks.{Represents}
-use Rattle.oas_layout.specs.declared.limits.Limits.{Limits}
-use Rattle.oas_narrow.specs.oas_wide.declared.blocks.BlockHead.{BlockHead}
-use Rattle.oas_narrow.specs.oas_wide.declared.ends.WideEnd.{WideEnd}
-use Rattle.oas_narrow.specs.oas_wide.declared.reasons.WideWhy.{WideWhy}
-use Rattle.oas_narrow.specs.oas_wide.declared.reasons.WideWhy.TheVariants as wide
-use Rattle.oas_narrow.specs.oas_wide.declared.records.WideRecord.{WideRecord}
-use Rattle.oas_narrow.specs.oas_wide.WideRecords.{FailsWide}
+use Rattle.oas_narrow.specs.BlockEnd.{BlockEnd}
+use Rattle.oas_narrow.specs.BlockEnd.TheVariants.{Whole}
+use Rattle.oas_narrow.specs.Blocks.{Represents}
+use Rattle.oas_elements.specs.declared.limits.Limits.{Limits}
+use Rattle.oas_narrow.specs.Stores.{Store}
+use Rattle.oas_narrow.specs.BlockHead.{BlockHead}
+use Rattle.oas_narrow.specs.WideEnd.{WideEnd}
+use Rattle.oas_narrow.specs.WideWhy.{WideWhy}
+use Rattle.oas_narrow.specs.WideWhy.TheVariants as wide
+use Rattle.oas_narrow.specs.WideRecord.{WideRecord}
+use Rattle.oas_narrow.specs.WideRecords.{FailsWide}
 use Rattle.oas_narrow.specs.declared.dropping.Dropping.{Dropping}
 use Rattle.oas_narrow.specs.declared.places.Place.{Place}
 use Rattle.oas_narrow.specs.declared.places.Place.TheVariants.{File, Block}
 use Rattle.oas_narrow.specs.declared.places.Rejection.{Rejection}
 use Rattle.oas_narrow.specs.Preparable.{AllPrepared}
 use Rattle.oas_narrow.specs.WideFiles.{inner_in, end_in, head_in}
-use Rattle.oas_prepare.specs.declared.taking.Preparation.{Preparation}
 use Rattle.oas_prepare.specs.Deciding.{decides}
 use Rattle.oas_prepare.specs.DataReasons.{DecidedInData, DecidedBy, run_out_why, why_in}
 use Rattle.oas_prepare.specs.Places.{StopsInData, EndsInData, IsVain, at_file}
-use Rattle.oas_prepare.specs.Taking.{Stands, SameRun}
+use Rattle.oas_prepare.specs.Taking.{State, Stands, SameRun}
 
 -- ---- one record
 
@@ -41,11 +41,11 @@ ReadsInside in_end old (Err e) new = FailsInside in_end old e new
 -- ---- all records of the data
 
 -- all bytes are records that are prepared after those before the block, and this is the result of both
-pub record HasInner (in_end : Bool) (first : Preparation) (records : List WideRecord) (bytes : List ℕ) (p : Preparation) : Type 0 where
+pub record HasInner {C : Type 0} (t : Store C) (in_end : Bool) (first : State C) (records : List WideRecord) (bytes : List ℕ) (p : State C) : Type 0 where
   pub inner : List WideRecord
   pub each : IsEach (inner_in in_end) inner bytes
   pub prepared : AllPrepared first.reader.limits first.dropping (records ++ inner)
-  pub stands : Stands p (records ++ inner)
+  pub stands : Stands t p (records ++ inner)
   pub same : SameRun first p
 
 -- that is where the last of the data's records begins, where a run of PADs is one; there is none only where there are no data
@@ -65,11 +65,11 @@ pub record StopsInner (limits : Limits) (dropping : Dropping) (in_end : Bool) (r
   pub reason : (e.why ≡ wide.Profile why.Memory) ⊎ (IsOfData e.why × StopsInData limits dropping in_end records plain within)
 
 -- After records that are prepared, the data are such records, or it stops at one.
-abbrev pub ConsumesData : Bool → List ℕ → Preparation → Result (Option ℕ) Rejection → Preparation → Type 0
-ConsumesData in_end plain first (Ok last) p = (records : List WideRecord) → Stands first records → AllPrepared first.reader.limits first.dropping records →
-    HasInner in_end first records plain p × IsLast first.reader.limits first.dropping in_end records plain last
-ConsumesData in_end plain first (Err e) p =
-    (records : List WideRecord) → Stands first records → AllPrepared first.reader.limits first.dropping records → StopsInner first.reader.limits first.dropping in_end records plain e
+abbrev pub ConsumesData : {C : Type 0} → Store C → Bool → List ℕ → State C → Result (Option ℕ) Rejection → State C → Type 0
+ConsumesData t in_end plain first (Ok last) p = (records : List WideRecord) → Stands t first records → AllPrepared first.reader.limits first.dropping records →
+    HasInner t in_end first records plain p × IsLast first.reader.limits first.dropping in_end records plain last
+ConsumesData t in_end plain first (Err e) p =
+    (records : List WideRecord) → Stands t first records → AllPrepared first.reader.limits first.dropping records → StopsInner first.reader.limits first.dropping in_end records plain e
 
 -- ---- reasons and places
 
@@ -94,12 +94,12 @@ ended_by block end last = Err (record { place = place_of_last block last; why = 
 -- ---- the block
 
 -- its bytes were taken, and the records of the data that they encode
-pub record HasTaken (in_end : Bool) (head : BlockHead) (old : Script) (first : Preparation) (records : List WideRecord) (new : Script) (p : Preparation) : Type 0 where
+pub record HasTaken {C : Type 0} (t : Store C) (in_end : Bool) (head : BlockHead) (old : Script) (first : State C) (records : List WideRecord) (new : Script) (p : State C) : Type 0 where
   pub bytes : List ℕ
   pub takes : Consumed old bytes new
   pub plain : List ℕ
   pub is : Represents head bytes plain
-  pub made : HasInner in_end first records plain p
+  pub made : HasInner t in_end first records plain p
 
 -- at the block, or in it
 abbrev pub IsAtBlock : ℕ → Place → Type 0
@@ -135,9 +135,9 @@ pub record ReasonsBlock (limits : Limits) (dropping : Dropping) (in_end : Bool) 
   pub decided : DecidedBy limits dropping in_end records head old new e.place e.why
 
 -- A block with this head, which begins at that offset, is taken with its records, or stops the file.
-abbrev pub ConsumesBlock : Bool → ℕ → BlockHead → Script → Preparation → Result (Unit {0}) Rejection → Script → Preparation → Type 0
-ConsumesBlock in_end at head old first (Ok done) new p =
-    (old.given ≤ new.given) × ((records : List WideRecord) → Stands first records → AllPrepared first.reader.limits first.dropping records → HasTaken in_end head old first records new p)
-ConsumesBlock in_end at head old first (Err e) new p =
-    (records : List WideRecord) → Stands first records → AllPrepared first.reader.limits first.dropping records →
+abbrev pub ConsumesBlock : {C : Type 0} → Store C → Bool → ℕ → BlockHead → Script → State C → Result (Unit {0}) Rejection → Script → State C → Type 0
+ConsumesBlock t in_end at head old first (Ok done) new p =
+    (old.given ≤ new.given) × ((records : List WideRecord) → Stands t first records → AllPrepared first.reader.limits first.dropping records → HasTaken t in_end head old first records new p)
+ConsumesBlock t in_end at head old first (Err e) new p =
+    (records : List WideRecord) → Stands t first records → AllPrepared first.reader.limits first.dropping records →
     StopsBlock first.reader.limits first.dropping in_end at head old records e new × ReasonsBlock first.reader.limits first.dropping in_end at head old records e new

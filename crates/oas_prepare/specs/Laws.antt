@@ -1,15 +1,15 @@
 -- What the laws of preparing say.
 use Rattle.std.specs.Prelude.{◌≡◌, ℕ, Bool, List}
-use Rattle.oas_layout.specs.declared.limits.Limits.{Limits}
-use Rattle.oas_layout.specs.declared.profile.Profile.{Profile}
-use Rattle.oas_layout.specs.Meaning.{Meaning, SameLayout}
-use Rattle.oas_canon.specs.oas_file.Acceptance.{Accepted}
-use Rattle.oas_canon.specs.oas_form.Canonical.{CanonicalForm, IsCanonicalOf}
+use Rattle.oas_elements.specs.declared.limits.Limits.{Limits}
+use Rattle.oas_elements.specs.declared.profile.Profile.{Profile}
+use Rattle.oas_elements.specs.Meaning.{Meaning, SameLayout}
+use Rattle.oas_canon.specs.Acceptance.{Accepted}
+use Rattle.oas_canon.specs.Canonical.{CanonicalForm, IsCanonicalOf}
 use Rattle.oas_narrow.specs.declared.dropping.Dropping.{Dropping}
 use Rattle.oas_narrow.specs.declared.dropping.Report.{Report}
 use Rattle.oas_narrow.specs.Dropping.{nothing_left_out}
 use Rattle.oas_narrow.specs.Preparable.{Preparable, WideMeans}
-use Rattle.oas_narrow.specs.oas_wide.declared.records.WideRecord.{WideRecord}
+use Rattle.oas_narrow.specs.WideRecord.{WideRecord}
 use Rattle.oas_prepare.specs.Places.{EndsInData}
 use Rattle.oas_prepare.specs.Run.{IsPreparedAs}
 

@@ -5,19 +5,19 @@ use Rattle.oas_record.specs.Found.{NoneIsSpelled}
 use Rattle.oas_record.specs.Heads.{magic}
 use Rattle.oas_num.specs.Grammar.{IsEach}
 use Rattle.oas_num.specs.Script.{Script}
-use Rattle.oas_narrow.specs.oas_wide.declared.blocks.BlockHead.{BlockHead}
-use Rattle.oas_narrow.specs.oas_wide.declared.ends.WideEnd.{WideEnd}
-use Rattle.oas_narrow.specs.oas_wide.declared.heads.WideStart.{WideStart}
-use Rattle.oas_narrow.specs.oas_wide.Heads.{SpellsWideStart}
+use Rattle.oas_narrow.specs.BlockHead.{BlockHead}
+use Rattle.oas_narrow.specs.WideEnd.{WideEnd}
+use Rattle.oas_narrow.specs.WideStart.{WideStart}
+use Rattle.oas_narrow.specs.Heads.{SpellsWideStart}
 use Rattle.oas_num.specs.Ratio.{Ratio}
-use Rattle.oas_narrow.specs.oas_block.Blocks.{Represents}
-use Rattle.oas_narrow.specs.oas_block.Reading.{IsUnfinished, IsOther}
-use Rattle.oas_layout.specs.declared.limits.Limits.{Limits}
-use Rattle.oas_narrow.specs.oas_modal.Stands.{end_refusal}
-use Rattle.oas_narrow.specs.oas_wide.declared.records.WideRecord.{WideRecord}
-use Rattle.oas_narrow.specs.oas_wide.declared.records.WideRecord.TheVariants.{Profile}
+use Rattle.oas_narrow.specs.Blocks.{Represents}
+use Rattle.oas_narrow.specs.Reading.{IsUnfinished, IsOther}
+use Rattle.oas_elements.specs.declared.limits.Limits.{Limits}
+use Rattle.oas_narrow.specs.Stands.{end_refusal}
+use Rattle.oas_narrow.specs.WideRecord.{WideRecord}
+use Rattle.oas_narrow.specs.WideRecord.TheVariants.{Profile}
 use Rattle.oas_narrow.specs.declared.dropping.Dropping.{Dropping}
-use Rattle.oas_narrow.specs.oas_wide.declared.reasons.WideWhy.{WideWhy}
+use Rattle.oas_narrow.specs.WideWhy.{WideWhy}
 use Rattle.oas_narrow.specs.declared.places.Rejection.{Rejection}
 use Rattle.oas_narrow.specs.declared.places.Place.{Place}
 use Rattle.oas_narrow.specs.declared.places.Place.TheVariants.{File, Block}

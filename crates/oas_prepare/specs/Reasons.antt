@@ -12,17 +12,17 @@ use Rattle.oas_num.specs.Reading as num
 use Rattle.oas_num.specs.Reading.{NoneWithin}
 use Rattle.oas_num.specs.Script.{Script, Consumed, IsAtEnd}
 use Rattle.oas_record.specs.Heads.{magic, IsMagic, MagicMay}
-use Rattle.oas_layout.specs.declared.limits.Limits.{Limits}
-use Rattle.oas_canon.specs.oas_file.Deciding.{EndingMay}
-use Rattle.oas_narrow.specs.oas_modal.Stands.{end_refusal}
-use Rattle.oas_narrow.specs.oas_wide.declared.blocks.BlockHead.{BlockHead}
-use Rattle.oas_narrow.specs.oas_wide.declared.ends.WideEnd.{WideEnd}
-use Rattle.oas_narrow.specs.oas_wide.declared.heads.WideStart.{WideStart}
-use Rattle.oas_narrow.specs.oas_wide.declared.reasons.WideWhy.{WideWhy}
-use Rattle.oas_narrow.specs.oas_wide.declared.reasons.WideWhy.TheVariants as wide
-use Rattle.oas_narrow.specs.oas_wide.declared.records.WideRecord.{WideRecord}
-use Rattle.oas_narrow.specs.oas_wide.Heads.{SpellsWideStart, WideStartTook}
-use Rattle.oas_narrow.specs.oas_wide.WideRecords.{wide_record_in, WideRecordTook}
+use Rattle.oas_elements.specs.declared.limits.Limits.{Limits}
+use Rattle.oas_canon.specs.Deciding.{EndingMay}
+use Rattle.oas_narrow.specs.Stands.{end_refusal}
+use Rattle.oas_narrow.specs.BlockHead.{BlockHead}
+use Rattle.oas_narrow.specs.WideEnd.{WideEnd}
+use Rattle.oas_narrow.specs.WideStart.{WideStart}
+use Rattle.oas_narrow.specs.WideWhy.{WideWhy}
+use Rattle.oas_narrow.specs.WideWhy.TheVariants as wide
+use Rattle.oas_narrow.specs.WideRecord.{WideRecord}
+use Rattle.oas_narrow.specs.Heads.{SpellsWideStart, WideStartTook}
+use Rattle.oas_narrow.specs.WideRecords.{wide_record_in, WideRecordTook}
 use Rattle.oas_narrow.specs.declared.dropping.Dropping.{Dropping}
 use Rattle.oas_narrow.specs.declared.places.Place.{Place}
 use Rattle.oas_narrow.specs.declared.places.Place.TheVariants.{File, Block}

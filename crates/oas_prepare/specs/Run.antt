@@ -3,18 +3,18 @@ use Rattle.std.specs.Prelude.{◌≡◌, ◌≢◌, ℕ, false, List, [], ◌++�
 use Rattle.oas_num.specs.Devices.{Calls, TakesAll, FailsAfter}
 use Rattle.oas_num.specs.declared.refusals.Why.TheVariants.{Truncated, Read, InputTooLong, Write, Memory}
 use Rattle.oas_num.specs.Script.{Script, Rest, Consumed, IsAtEnd, HasFailed, IsTooLong}
-use Rattle.oas_layout.specs.declared.limits.Limits.{Limits}
-use Rattle.oas_layout.specs.declared.profile.Profile.{Profile}
-use Rattle.oas_layout.specs.Meaning.{Meaning, SameLayout}
-use Rattle.oas_canon.specs.oas_file.Acceptance.{Means}
-use Rattle.oas_canon.specs.oas_form.Canonical.{CanonicalForm}
+use Rattle.oas_elements.specs.declared.limits.Limits.{Limits}
+use Rattle.oas_elements.specs.declared.profile.Profile.{Profile}
+use Rattle.oas_elements.specs.Meaning.{Meaning, SameLayout}
+use Rattle.oas_canon.specs.Acceptance.{Means}
+use Rattle.oas_canon.specs.Canonical.{CanonicalForm}
 use Rattle.oas_narrow.specs.declared.dropping.Dropping.{Dropping}
 use Rattle.oas_narrow.specs.declared.dropping.Report.{Report}
-use Rattle.oas_narrow.specs.oas_wide.declared.reasons.WideWhy.{WideWhy}
-use Rattle.oas_narrow.specs.oas_wide.declared.reasons.WideWhy.TheVariants as wide
+use Rattle.oas_narrow.specs.WideWhy.{WideWhy}
+use Rattle.oas_narrow.specs.WideWhy.TheVariants as wide
 use Rattle.oas_narrow.specs.declared.places.Place.TheVariants.{File}
 use Rattle.oas_narrow.specs.declared.places.Rejection.{Rejection}
-use Rattle.oas_narrow.specs.oas_wide.Reasons.{plain_of}
+use Rattle.oas_narrow.specs.Reasons.{plain_of}
 use Rattle.oas_narrow.specs.Narrowing.{report_of}
 use Rattle.oas_narrow.specs.Preparable.{Formed, Preparable, WideMeans, IsValid}
 use Rattle.oas_prepare.specs.Deciding.{decides, is_of_file, is_cut}

@@ -1,8 +1,8 @@
 -- What a signature is, by the sums of the bytes that it covers.
 use Rattle.std.specs.Prelude.{ℕ, List}
-use Rattle.oas_sums.specs.oas_checksum.Signed.{signed}
-use Rattle.oas_sums.specs.Sums.{AreSums}
-use Rattle.oas_narrow.specs.oas_wide.declared.ends.Validation.{Validation}
+use Rattle.oas_narrow.specs.Signed.{signed}
+use Rattle.oas_narrow.specs.Sums.{AreSums}
+use Rattle.oas_narrow.specs.Validation.{Validation}
 use Rattle.oas_narrow.specs.Preparable.{IsValid}
 
 -- a file with these sums is complete

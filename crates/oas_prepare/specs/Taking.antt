@@ -3,32 +3,36 @@ use Rattle.std.specs.Prelude.{◌≡◌, ℕ, Option, None, Some, List, reverse,
 use Rattle.oas_num.specs.declared.refusals.Refusal.{Refusal}
 use Rattle.oas_num.specs.declared.refusals.Why.{Why}
 use Rattle.oas_num.specs.declared.refusals.Why.TheVariants.{Memory}
-use Rattle.oas_layout.specs.declared.limits.Limits.{Limits}
-use Rattle.oas_narrow.specs.oas_modal.Stands.{Represents}
-use Rattle.oas_narrow.specs.oas_modal.Stores.{held_store}
+use Rattle.oas_elements.specs.declared.limits.Limits.{Limits}
+use Rattle.oas_narrow.specs.Stands.{Represents, ReaderState}
+use Rattle.oas_narrow.specs.Stores.{Store}
 use Rattle.oas_narrow.specs.declared.dropping.Dropping.{Dropping}
-use Rattle.oas_narrow.specs.oas_wide.declared.reasons.WideWhy.{WideWhy}
-use Rattle.oas_narrow.specs.oas_wide.declared.reasons.WideWhy.TheVariants.{Profile}
+use Rattle.oas_narrow.specs.WideWhy.{WideWhy}
+use Rattle.oas_narrow.specs.WideWhy.TheVariants.{Profile}
 use Rattle.oas_narrow.specs.declared.places.Place.TheVariants.{File}
 use Rattle.oas_narrow.specs.declared.places.Rejection.{Rejection}
-use Rattle.oas_narrow.specs.oas_wide.declared.records.WideRecord.{WideRecord}
+use Rattle.oas_narrow.specs.WideRecord.{WideRecord}
 use Rattle.oas_narrow.specs.Narrowing.{narrowed, kept_of, is_open, report_of, obstacle_after}
 use Rattle.oas_narrow.specs.Roles.{role_of, obstacle_by}
 use Rattle.oas_prepare.specs.declared.taking.Preparation.{Preparation}
 
--- it is the result of these records, oldest first
-pub record Stands (p : Preparation) (ws : List WideRecord) : Type 0 where
-  pub reader : Represents held_store p.reader (narrowed ws)
-  pub resolver : p.resolver ≡ kept_of (reverse ws)
-  pub in_cell : p.in_cell ≡ is_open (reverse ws)
-  pub report : p.report ≡ report_of ws
+-- the state with a reader over stores of this kind
+abbrev pub State : Type 0 → Type 0
+State C = Preparation (ReaderState C)
 
--- what is for the whole file stays
-pub record SameRun (old new : Preparation) : Type 0 where
-  pub unit : new.reader.unit ≡ old.reader.unit
-  pub limits : new.reader.limits ≡ old.reader.limits
-  pub profile : new.reader.profile ≡ old.reader.profile
-  pub dropping : new.dropping ≡ old.dropping
+module _ {C : Type 0} where
+  -- it is the result of these records, oldest first
+  pub record Stands (t : Store C) (p : State C) (ws : List WideRecord) : Type 0 where
+    pub reader : Represents t p.reader (narrowed ws)
+    pub resolver : p.resolver ≡ kept_of (reverse ws)
+    pub in_cell : p.in_cell ≡ is_open (reverse ws)
+    pub report : p.report ≡ report_of ws
+
+  -- what is for the whole file stays
+  pub record SameRun (old new : State C) : Type 0 where
+    pub unit : new.reader.unit ≡ old.reader.unit
+    pub limits : new.reader.limits ≡ old.reader.limits
+    pub dropping : new.dropping ≡ old.dropping
 
 -- why a record after these isn't prepared, oldest first
 abbrev pub obstacle_next : Limits → Dropping → List WideRecord → WideRecord → Option WideWhy

@@ -1,14 +1,15 @@
 //! All records of a file of the standard.
-ghost use Rattle.oas_canon.specs.oas_file.Gathering.{FindsEnd};
 ghost use Rattle.oas_prepare.specs.Gathering.{ConsumesNext, Gathers, GathersFile};
 
 use crate::heads::read_wide_head;
 use crate::inside::take_block;
 use crate::taking::Preparation;
-use oas_layout::{Limits, Profile};
-use oas_narrow::oas_wide::{BlockHead, WideEnd, WideRecord, WideRefusal, WideStart};
+use oas_canon::find_end_of_input;
+use oas_elements::{Limits, Profile};
+use oas_narrow::oas_reader::{CellStore, Reader};
+use oas_narrow::oas_standard::{BlockHead, WideEnd, WideRecord, WideRefusal, WideStart};
 use oas_narrow::{Dropping, Rejection};
-use oas_num::{Refusal, Source, SourceFault, Why};
+use oas_num::Source;
 use std::alloc::Global;
 
 /// What comes next in a file.
@@ -22,8 +23,8 @@ pub(crate) enum Next {
 
 /// The result of all records, with END and its offset.
 #[derive(Drop)]
-pub(crate) struct Gathered {
-    pub(crate) preparation: Preparation,
+pub(crate) struct Gathered<R> {
+    pub(crate) preparation: Preparation<R>,
     pub(crate) at: u64,
     pub(crate) end: WideEnd,
 }
@@ -44,13 +45,13 @@ pub(crate) fn take_next<S: Source>(
 }
 
 /// Takes the records up to END, and returns END and its offset.
-fn take_records<S: Source>(
+fn take_records<S: Source, C: CellStore>(
     alloc: Global,
     source: &mut S,
     head: WideStart,
-    preparation: &mut Preparation,
+    preparation: &mut Preparation<Reader<C>>,
 ) -> Result<(u64, WideEnd), Rejection>
-    ensures { Gathers head (S.script source.old) preparation.old result (S.script source.new) preparation.new }
+    ensures { Gathers C.store head (S.script source.old) preparation.old result (S.script source.new) preparation.new }
 {
     let mut at = source.at();
     'records: loop {
@@ -65,29 +66,15 @@ fn take_records<S: Source>(
     }
 }
 
-/// Finds the end of the input.
-fn find_end_of_input<S: Source>(source: &mut S) -> Result<(), Refusal>
-    ensures { FindsEnd (S.script source.old) result (S.script source.new) }
-{
-    let at = source.at();
-    let why = match source.next() {
-        Ok(None) => return Ok(()),
-        Ok(Some(_)) => Why::TrailingBytes,
-        Err(SourceFault::Device) => Why::Read,
-        Err(SourceFault::TooLong) => Why::InputTooLong,
-    };
-    Err(Refusal { at, why })
-}
-
 /// Takes a whole file: its head, its records and END, after which the input ends.
-pub(crate) fn gather<S: Source>(
+pub(crate) fn gather<S: Source, C: CellStore>(
     alloc: Global,
     source: &mut S,
     limits: Limits,
     profile: Profile,
     dropping: Dropping,
-) -> Result<Gathered, Rejection>
-    ensures { GathersFile limits profile dropping (S.script source.old) result (S.script source.new) }
+) -> Result<Gathered<Reader<C>>, Rejection>
+    ensures { GathersFile C.store limits dropping (S.script source.old) result (S.script source.new) }
 {
     let (head, unit) = read_wide_head(alloc, source)?;
     let mut preparation = Preparation::new(alloc, unit, limits, profile, dropping);

@@ -1,11 +1,11 @@
 //! The head of a file of the standard.
 ghost use Rattle.std.specs.Prelude.{◌≡◌};
-ghost use Rattle.oas_narrow.specs.oas_wide.declared.reasons.WideWhy.TheVariants.{Profile};
+ghost use Rattle.oas_narrow.specs.WideWhy.TheVariants.{Profile};
 ghost use Rattle.oas_prepare.specs.Places.{at_file};
 ghost use Rattle.oas_prepare.specs.Heads.{ReadsWideHead};
 
 use crate::units::unit_of;
-use oas_narrow::oas_wide::{WideStart, WideWhy};
+use oas_narrow::oas_standard::{WideStart, WideWhy};
 use oas_narrow::{Place, Rejection};
 use oas_num::{Fraction, Source, Why};
 use oas_record::read_magic;

@@ -1,6 +1,6 @@
 //! The records of a compressed block's data.
 ghost use Rattle.std.specs.Prelude.{◌≡◌};
-ghost use Rattle.oas_narrow.specs.oas_block.declared.block.BlockEnd.{BlockEnd as End};
+ghost use Rattle.oas_narrow.specs.BlockEnd.{BlockEnd as End};
 ghost use Rattle.oas_prepare.specs.Places.{at_file};
 ghost use Rattle.oas_prepare.specs.DataReasons.{run_out_why, fault_why};
 ghost use Rattle.oas_prepare.specs.Inside.{ReadsInside, ConsumesData, ConsumesBlock, ended_by, in_block};
@@ -8,7 +8,8 @@ ghost use Rattle.oas_prepare.specs.Inside.{ReadsInside, ConsumesData, ConsumesBl
 use crate::gathering::{Next, take_next};
 use crate::taking::Preparation;
 use oas_narrow::oas_block::{BlockEnd, BlockFault, Inflated, InflatedSource, read_block};
-use oas_narrow::oas_wide::{BlockHead, WideRecord, WideWhy};
+use oas_narrow::oas_reader::{CellStore, Reader};
+use oas_narrow::oas_standard::{BlockHead, WideRecord, WideWhy};
 use oas_narrow::{Place, Rejection};
 use oas_num::{Source, Why};
 use std::alloc::Global;
@@ -47,13 +48,13 @@ fn read_inside<S: Source>(
 
 /// Takes the records of a block's data, and returns where in the data the last of them begins, if there is one. A run of PADs
 /// counts as one: they change nothing, so they are taken at once.
-fn take_data(
+fn take_data<C: CellStore>(
     alloc: Global,
     plain: &Inflated,
     flag_in_end: bool,
-    preparation: &mut Preparation,
+    preparation: &mut Preparation<Reader<C>>,
 ) -> Result<Option<u64>, Rejection>
-    ensures { ConsumesData flag_in_end plain.now.items preparation.old result preparation.new }
+    ensures { ConsumesData C.store flag_in_end plain.now.items preparation.old result preparation.new }
 {
     let length = plain.len() as u64;
     let mut source = InflatedSource::new(plain);
@@ -134,15 +135,15 @@ fn ended(block: u64, end: BlockEnd, last: Option<u64>) -> Result<(), Rejection>
 /// It stops at the block where its bytes are not those of a block with that head, as far as they were inflated, and otherwise
 /// at the record in its data. A stream that isn't finished, has too few bytes or leaves bytes over stops it at the last
 /// record that begins in what there is, where a run of PADs is one record.
-pub(crate) fn take_block<S: Source>(
+pub(crate) fn take_block<S: Source, C: CellStore>(
     alloc: Global,
     source: &mut S,
     at: u64,
     head: BlockHead,
     flag_in_end: bool,
-    preparation: &mut Preparation,
+    preparation: &mut Preparation<Reader<C>>,
 ) -> Result<(), Rejection>
-    ensures { ConsumesBlock flag_in_end at head (S.script source.old) preparation.old result (S.script source.new) preparation.new }
+    ensures { ConsumesBlock C.store flag_in_end at head (S.script source.old) preparation.old result (S.script source.new) preparation.new }
 {
     let block = match read_block(alloc, source, head, DATA_MAX) {
         Ok(block) => block,

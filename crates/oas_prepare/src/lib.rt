@@ -6,7 +6,7 @@
 //!   with what is named to be left out. Then a writer took the canonical form of the meaning of the profile's records that
 //!   its records are translated to, and the result has how many records of each kind were left out (`IsDone`,
 //!   specs/Run.antt). Otherwise nothing was written, or the writer failed after a prefix of it.
-//! - [`read_prepared`] returns that meaning as a layout in place of writing it, and the same counts (`IsReadPrepared`,
+//! - [`read_prepared`] returns that meaning as a `Layout` in place of writing it, and the same counts (`IsReadPrepared`,
 //!   specs/Finishing.antt).
 //! - The clauses cover both outcomes. A rejection with a reason of the bytes says that no file that can be prepared begins
 //!   with what was taken. Where the source had given nothing before, it also says that its place is one at which every file
@@ -21,22 +21,25 @@
 //!   one place.
 //!
 //! The definitions of which files are prepared, and what they mean, are those of `oas_narrow`. The records of the profile go
-//! to the reader of `oas_modal`, and its layout to the writer of `oas_form`: there is one canonical form and one way to it.
+//! to the reader of `oas_reader`, with cells that are held as keys, and what it took to `finish_layout` of `oas_layout` and to
+//! the writer of `oas_writing`: there is one canonical form and one way to it.
 //!
 //! # How it is built
 //!
-//! - src/taking.rt: a `Preparation` is a reader and the `Resolver` of oas_foreign before it, with what is counted; it
-//!   represents a list of the standard's records (`Stands`).
+//! - src/taking.rt: a `Preparation` is a reader, over cells of any kind, and the `Resolver` of oas_trapezoids before it, with
+//!   what is counted; it represents a list of the standard's records (`Stands`).
 //! - src/gathering.rt: the loop over the records. proofs/Fronts.antt, Refusing.antt, Gathered.antt and Ending.antt correspond
-//!   to the files of the same kind in oas_file, which are for `read_layout`.
+//!   to the files of the same kind in oas_file, whose records are those of the profile.
 //! - src/inside.rt: a block. Its data are read into memory, at most 2^30 bytes of them, and their records are taken from
 //!   there as those of the file are from its source (proofs/Inner.antt and InnerStops.antt). Only a run of PADs is taken at
 //!   once: proofs/Pads.antt says that a PAD changes nothing, Runs.antt where a run begins. Then its place is put before
 //!   theirs (`in_block`). How a file goes on after a block's head is proved once, in `block_goes_on` (proofs/Blocks.antt);
 //!   from it follow both that a block is one more item, and that a file stops at it or in it. That items have one reading
 //!   (proofs/Items.antt) rests on that of records and on oas_block's law of one data.
+//! - src/preparing.rt: `read_prepared` goes from the profile to a type by it (`KeptBy`), and `finish` from what was gathered to
+//!   the layout.
 //! - src/signing.rt: whether a signature is right, by the sums of the bytes before it. `read_named` (src/preparing.rt) reads
-//!   through a `SummedSource` of oas_sums, since what the signature covers is known only at END.
+//!   through a `SummedSource` of oas_checksum, since what the signature covers is known only at END.
 //! - src/units.rt: a float's unit as a fraction in lowest terms; proofs/Doubling.antt has how lowest terms change when a
 //!   fraction is doubled.
 #![tactic(auto)]
@@ -51,7 +54,11 @@ mod taking;
 mod units;
 
 // The crates below, for those above.
-pub use oas_canon;
-pub use oas_narrow;
-pub use oas_narrow::oas_wide;
+
+pub use oas_canon::{
+    Layout, Limits, PROFILE, Refusal, Sink, SinkFault, SliceSource, Which, Why,
+    has_canonical_bytes, key, put_canonical, put_cell_keys, put_listing, read_layout,
+};
+pub use oas_narrow::oas_standard::WideWhy;
+pub use oas_narrow::{Dropping, Extra, Place, Rejection, Report};
 pub use preparing::{prepare, read_prepared};

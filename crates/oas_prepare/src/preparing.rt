@@ -1,7 +1,7 @@
 //! From a source to a writer: the canonical file of the meaning of a file of the standard.
 ghost use Rattle.std.specs.Prelude.{◌≡◌, ◌⊎◌, IfOk, IfErr};
 ghost use Rattle.oas_num.specs.declared.refusals.Why.TheVariants.{Write as NotWritten};
-ghost use Rattle.oas_narrow.specs.oas_wide.declared.reasons.WideWhy.TheVariants.{Profile as ByProfile};
+ghost use Rattle.oas_narrow.specs.WideWhy.TheVariants.{Profile as ByProfile};
 ghost use Rattle.oas_prepare.specs.Reasons.{IsReasoned};
 ghost use Rattle.oas_prepare.specs.Run.{IsDone, IsCut, IsStopped, IsPlaced, Exactly};
 ghost use Rattle.oas_prepare.specs.Finishing.{Finishes, ReadsPrepared};
@@ -9,19 +9,26 @@ ghost use Rattle.oas_prepare.specs.Finishing.{Finishes, ReadsPrepared};
 use crate::gathering::{Gathered, gather};
 use crate::signing::came_whole;
 use crate::taking::Preparation;
-use oas_canon::oas_form::write_canonical;
-use oas_layout::{Layout, Limits, Profile};
-use oas_narrow::oas_wide::WideWhy;
+use oas_canon::{
+    ByProfileOne, ByProfileTwo, CompactCell, KeptBy, Layout, finish_layout, write_canonical,
+};
+use oas_elements::{Limits, Profile};
+use oas_narrow::oas_checksum::{Start, SummedSource, Sums};
+use oas_narrow::oas_reader::Reader;
+use oas_narrow::oas_standard::WideWhy;
 use oas_narrow::{Dropping, Place, Rejection, Report};
 use oas_num::{Device, Source};
-use oas_sums::{Start, SummedSource, Sums};
 use std::alloc::Global;
 use std::marker::Brand;
 
 /// The layout of all that was gathered, and what was left out. The sums are those of the file's bytes before its signature.
 /// It stops at END: with `Checksum` where the signature is another, and then where END refuses its records.
-fn finish(gathered: Gathered, sums: &Sums) -> Result<(Layout, Report), Rejection>
-    ensures { Finishes gathered sums.now result }
+fn finish<P: KeptBy>(
+    alloc: Global,
+    gathered: Gathered<Reader<CompactCell<P>>>,
+    sums: &Sums,
+) -> Result<(Layout, Report), Rejection>
+    ensures { Finishes P.profile gathered sums.now result }
 {
     let Gathered {
         preparation,
@@ -35,7 +42,7 @@ fn finish(gathered: Gathered, sums: &Sums) -> Result<(Layout, Report), Rejection
         });
     }
     let Preparation { reader, report, .. } = preparation;
-    let layout = reader.finish(at)?;
+    let layout = finish_layout(alloc, reader, at)?;
     Ok((layout, report))
 }
 
@@ -51,28 +58,42 @@ pub fn read_prepared<S: Source>(
 ) -> Result<(Layout, Report), Rejection>
     ensures { ReadsPrepared limits profile dropping (S.script from.old) result (S.script from.new) }
 {
-    let (read, _from) = read_named::<S, Brand>(alloc, from, limits, profile, dropping);
+    match profile {
+        Profile::One => read_kept::<S, ByProfileOne>(alloc, from, limits, dropping),
+        Profile::Two => read_kept::<S, ByProfileTwo>(alloc, from, limits, dropping),
+    }
+}
+
+/// The same, by a profile that is a type.
+fn read_kept<S: Source, P: KeptBy>(
+    alloc: Global,
+    from: &mut S,
+    limits: Limits,
+    dropping: Dropping,
+) -> Result<(Layout, Report), Rejection>
+    ensures { ReadsPrepared limits P.profile dropping (S.script from.old) result (S.script from.new) }
+{
+    let (read, _from) = read_named::<S, P, Brand>(alloc, from, limits, dropping);
     read
 }
 
 /// The same, for the source that is named. It hands the borrow back, so that its lender knows it as its own.
-fn read_named<'a, S: Source, K: Start>(
+fn read_named<'a, S: Source, P: KeptBy, K: Start>(
     alloc: Global,
     from: &'a mut S,
     limits: Limits,
-    profile: Profile,
     dropping: Dropping,
 ) -> (Result<(Layout, Report), Rejection>, &'a mut S)
     requires named { from.ghost_name ≡ K.name }
     requires starts { S.script from.old ≡ K.script }
     ensures same { result.1.ghost_name ≡ from.entry.ghost_name }
-    ensures reads { ReadsPrepared limits profile dropping (S.script from.old) result.0 (S.script result.1.now) }
+    ensures reads { ReadsPrepared limits P.profile dropping (S.script from.old) result.0 (S.script result.1.now) }
 {
     let mut summed: SummedSource<'a, S, K> = SummedSource::new(from);
-    let outcome = gather(alloc, &mut summed, limits, profile, dropping);
+    let outcome = gather(alloc, &mut summed, limits, P::profile(), dropping);
     let (from, sums) = summed.finish();
     let read = match outcome {
-        Ok(gathered) => finish(gathered, &sums),
+        Ok(gathered) => finish::<P>(alloc, gathered, &sums),
         Err(rejection) => Err(rejection),
     };
     (read, from)

@@ -1,18 +1,17 @@
 //! The state after the records of a file, one after another.
 ghost use Rattle.std.specs.Prelude.{◌≡◌, ◌++◌, ◌∷◌, [], List, None, OnOk, IfErr};
-ghost use Rattle.oas_narrow.specs.oas_wide.declared.records.WideRecord.{WideRecord as OneRecord};
-ghost use Rattle.oas_narrow.specs.oas_foreign.Tracked.{handed};
-ghost use Rattle.oas_narrow.specs.oas_modal.Stands.{Represents};
-ghost use Rattle.oas_narrow.specs.oas_modal.Stores.{held_store};
+ghost use Rattle.oas_narrow.specs.WideRecord.{WideRecord as OneRecord};
+ghost use Rattle.oas_narrow.specs.Tracked.{handed};
+ghost use Rattle.oas_narrow.specs.Stands.{Represents};
 ghost use Rattle.oas_narrow.specs.Narrowing.{refused_of};
 ghost use Rattle.oas_record.specs.declared.records.Record.{Record as PlainRecord};
 ghost use Rattle.oas_prepare.specs.Taking.{Stands, SameRun, IsStop, IsRefused, obstacle_next};
 
 use crate::inside::stopped;
-use oas_layout::{Limits, Profile};
-use oas_narrow::oas_foreign::{Resolved, Resolver};
-use oas_narrow::oas_modal::Reader;
-use oas_narrow::oas_wide::WideRecord;
+use oas_elements::{Limits, Profile};
+use oas_narrow::oas_reader::{CellStore, Reader};
+use oas_narrow::oas_standard::WideRecord;
+use oas_narrow::oas_trapezoids::{Resolved, Resolver};
 use oas_narrow::{Dropping, Rejection, Report, Role, with_turns};
 use oas_num::{Fraction, Refusal};
 use oas_record::Record;
@@ -20,9 +19,9 @@ use std::alloc::Global;
 
 /// The result of the records so far.
 #[derive(Drop)]
-pub(crate) struct Preparation {
+pub(crate) struct Preparation<R> {
     /// The reader of the profile's records that they are translated to.
-    pub(crate) reader: Reader,
+    pub(crate) reader: R,
     /// What says which these are.
     pub(crate) resolver: Resolver,
     /// Whether a cell is open after them.
@@ -33,7 +32,7 @@ pub(crate) struct Preparation {
     pub(crate) report: Report,
 }
 
-impl Preparation {
+impl<C: CellStore> Preparation<Reader<C>> {
     /// That of no records.
     pub(crate) fn new(
         alloc: Global,
@@ -41,11 +40,10 @@ impl Preparation {
         limits: Limits,
         profile: Profile,
         dropping: Dropping,
-    ) -> Preparation
-        ensures stands { Stands result [] }
+    ) -> Preparation<Reader<C>>
+        ensures stands { Stands C.store result [] }
         ensures unit { result.reader.unit ≡ unit }
         ensures limits { result.reader.limits ≡ limits }
-        ensures profile { result.reader.profile ≡ profile }
         ensures dropping { result.dropping ≡ dropping }
     {
         Preparation {
@@ -59,8 +57,8 @@ impl Preparation {
 
     /// Takes one more record, which starts at byte `at`.
     pub(crate) fn take(&mut self, alloc: Global, at: u64, next: WideRecord) -> Result<(), Rejection>
-        ensures taken { (ws : List OneRecord) → Stands self.old ws → OnOk result ((obstacle_next self.old.reader.limits self.old.dropping ws next ≡ None) × Stands self.new (ws ++ next ∷ [])) }
-        ensures stopped { (ws : List OneRecord) → Stands self.old ws → IfErr result (IsStop at self.old.reader.limits self.old.dropping ws next) }
+        ensures taken { (ws : List OneRecord) → Stands C.store self.old ws → OnOk result ((obstacle_next self.old.reader.limits self.old.dropping ws next ≡ None) × Stands C.store self.new (ws ++ next ∷ [])) }
+        ensures stopped { (ws : List OneRecord) → Stands C.store self.old ws → IfErr result (IsStop at self.old.reader.limits self.old.dropping ws next) }
         ensures same { OnOk result (SameRun self.old self.new) }
     {
         let role = Role::of(&next);
@@ -80,12 +78,15 @@ impl Preparation {
 }
 
 /// Gives the reader the records of the profile that a record which starts at byte `at` is translated to.
-fn take_resolved(reader: &mut Reader, at: u64, resolved: Resolved) -> Result<(), Refusal>
-    ensures taken { (rs : List PlainRecord) → Represents held_store reader.old rs → OnOk result ((refused_of reader.old.limits rs (handed resolved) ≡ None) × Represents held_store reader.new (rs ++ handed resolved)) }
-    ensures refused { (rs : List PlainRecord) → Represents held_store reader.old rs → IfErr result (IsRefused at (refused_of reader.old.limits rs (handed resolved))) }
+fn take_resolved<C: CellStore>(
+    reader: &mut Reader<C>,
+    at: u64,
+    resolved: Resolved,
+) -> Result<(), Refusal>
+    ensures taken { (rs : List PlainRecord) → Represents C.store reader.old rs → OnOk result ((refused_of reader.old.limits rs (handed resolved) ≡ None) × Represents C.store reader.new (rs ++ handed resolved)) }
+    ensures refused { (rs : List PlainRecord) → Represents C.store reader.old rs → IfErr result (IsRefused at (refused_of reader.old.limits rs (handed resolved))) }
     ensures unit { OnOk result (reader.new.unit ≡ reader.old.unit) }
     ensures limits { OnOk result (reader.new.limits ≡ reader.old.limits) }
-    ensures profile { OnOk result (reader.new.profile ≡ reader.old.profile) }
 {
     match resolved {
         Resolved::Nothing => Ok(()),

@@ -6,13 +6,13 @@ use Rattle.sha2.specs.Sha256.{sha256}
 use Rattle.oas_num.specs.declared.refusals.Refusal.{Refusal}
 use Rattle.oas_num.specs.Script.{Script}
 use Rattle.oas_num.specs.Written.{IsWritten, IsCutOff}
-use Rattle.oas_layout.specs.declared.limits.Limits.{Limits}
-use Rattle.oas_layout.specs.Contents.{Contents, IsLayout, meaning_of}
-use Rattle.oas_explain.specs.oas_command.oas_canon.declared.profile.TheConstants.{PROFILE}
-use Rattle.oas_explain.specs.oas_command.oas_canon.oas_form.Bytes.{canonical_bytes}
-use Rattle.oas_prepare.specs.oas_narrow.declared.dropping.Dropping.{Dropping}
-use Rattle.oas_prepare.specs.oas_narrow.declared.dropping.Report.{Report}
-use Rattle.oas_prepare.specs.oas_narrow.declared.places.Rejection.{Rejection}
+use Rattle.oas_elements.specs.declared.limits.Limits.{Limits}
+use Rattle.oas_elements.specs.Contents.{Contents, meaning_of}
+use Rattle.oas_explain.specs.ProfileConstants.{PROFILE}
+use Rattle.oas_explain.specs.Bytes.{canonical_bytes}
+use Rattle.oas_prepare.specs.NarrowDropping.{Dropping}
+use Rattle.oas_prepare.specs.Report.{Report}
+use Rattle.oas_prepare.specs.Rejection.{Rejection}
 use Rattle.oas_prepare.specs.Finishing.{IsReadPrepared}
 use Rattle.oas_prepare.specs.Run.{Stops}
 use Rattle.oas_prepare.proofs.Whole.{taken, exactly_done, exactly_stopped}
@@ -34,12 +34,12 @@ reports value report (Err refusal) = refl
 -- ---- its key
 
 module _ {limits : Limits} {dropping : Dropping} {old new : Script} where
-  pub keyed : {l : Contents} {report : Report} → IsReadPrepared limits PROFILE dropping old l report new → IsLayout l → (digest : List ℕ) →
+  pub keyed : {l : Contents} {report : Report} → IsReadPrepared limits PROFILE dropping old l report new → (digest : List ℕ) →
       digest ≡ sha256 (canonical_bytes (meaning_of l)) → KeysPrepared limits dropping old (Ok (digest, report)) new
-  keyed {l = l} read held digest is = record {
-    keyed = record { canonical = canonical_bytes (meaning_of l); taken = taken read held; hashed = is };
+  keyed {l = l} read digest is = record {
+    keyed = record { canonical = canonical_bytes (meaning_of l); taken = taken read; hashed = is };
     stopped = tt;
-    exactly = exactly_done read held;
+    exactly = exactly_done read;
   }
 
   pub unkeyed : (e : Rejection) → Stops limits dropping old e new → KeysPrepared limits dropping old (Err e) new

@@ -5,17 +5,17 @@ use Rattle.std.proofs.lemmas.List.{length-append}
 use Rattle.oas_num.specs.declared.refusals.Why.TheVariants.{Memory}
 use Rattle.oas_num.specs.Script.{Script, Consumed}
 use Rattle.oas_num.proofs.ReadLemmas.{Consumed-one}
-use Rattle.oas_layout.specs.declared.limits.Limits.{Limits}
-use Rattle.oas_layout.specs.Contents.{Contents, IsLayout, meaning_of}
-use Rattle.oas_explain.specs.oas_command.oas_canon.declared.profile.TheConstants.{PROFILE}
-use Rattle.oas_explain.specs.oas_command.oas_canon.oas_form.Bytes.{canonical_bytes}
-use Rattle.oas_prepare.specs.oas_wide.declared.ends.WideEnd.{WideEnd}
-use Rattle.oas_prepare.specs.oas_wide.declared.heads.WideStart.{WideStart}
-use Rattle.oas_prepare.specs.oas_wide.declared.records.WideRecord.{WideRecord}
-use Rattle.oas_prepare.specs.oas_narrow.declared.dropping.Dropping.{Dropping}
-use Rattle.oas_prepare.specs.oas_narrow.declared.dropping.Report.{Report}
-use Rattle.oas_prepare.specs.oas_narrow.declared.places.Rejection.{Rejection}
-use Rattle.oas_prepare.specs.oas_narrow.WideFiles.{WideFileOf, WidePrefixOf, end_in}
+use Rattle.oas_elements.specs.declared.limits.Limits.{Limits}
+use Rattle.oas_elements.specs.Contents.{Contents, meaning_of}
+use Rattle.oas_explain.specs.ProfileConstants.{PROFILE}
+use Rattle.oas_explain.specs.Bytes.{canonical_bytes}
+use Rattle.oas_prepare.specs.WideEnd.{WideEnd}
+use Rattle.oas_prepare.specs.WideStart.{WideStart}
+use Rattle.oas_prepare.specs.WideRecord.{WideRecord}
+use Rattle.oas_prepare.specs.NarrowDropping.{Dropping}
+use Rattle.oas_prepare.specs.Report.{Report}
+use Rattle.oas_prepare.specs.Rejection.{Rejection}
+use Rattle.oas_prepare.specs.WideFiles.{WideFileOf, WidePrefixOf, end_in}
 use Rattle.oas_prepare.specs.Finishing.{IsReadPrepared}
 use Rattle.oas_prepare.specs.Reasons.{Torn, TheWhole, IsReasoned}
 use Rattle.oas_prepare.specs.Run.{Stops}
@@ -53,14 +53,14 @@ module _ {limits : Limits} {dropping : Dropping} {old new : Script} where
   unchecked e stops = record { checked = tt; stopped = stops; exactly = exactly_stopped e stops.0 }
 
   module _ {l : Contents} {report : Report} (read : IsReadPrepared limits PROFILE dropping old l report new) where
-    pub checked : IsLayout l → (bytes : List ℕ) → Consumed old bytes new → (answer : Bool) → (IsTrue answer ↔ (canonical_bytes (meaning_of l) ≡ bytes)) →
+    pub checked : (bytes : List ℕ) → Consumed old bytes new → (answer : Bool) → (IsTrue answer ↔ (canonical_bytes (meaning_of l) ≡ bytes)) →
         ChecksPrepared limits dropping old (Ok (answer, report)) new
-    checked held bytes kept answer is =
-        let same = Consumed-one kept (taken read held).takes in
+    checked bytes kept answer is =
+        let same = Consumed-one kept (taken read).takes in
         record {
-          checked = record { canonical = canonical_bytes (meaning_of l); taken = taken read held; equal = (λ yes. sym (is.0 yes ∙ same), λ e. is.1 (sym (same ∙ e))) };
+          checked = record { canonical = canonical_bytes (meaning_of l); taken = taken read; equal = (λ yes. sym (is.0 yes ∙ same), λ e. is.1 (sym (same ∙ e))) };
           stopped = tt;
-          exactly = exactly_done read held;
+          exactly = exactly_done read;
         }
 
     -- it was not kept

@@ -4,11 +4,11 @@ use Rattle.std.specs.Prelude.{◌==◌}
 use Rattle.std.proofs.lemmas.Bool.{eqb-true}
 use Rattle.oas_num.specs.Combinators.{IsEither, IsNever}
 use Rattle.oas_num.specs.Grammar.{IsImage}
-use Rattle.oas_prepare.specs.oas_wide.declared.ends.WideEnd.{WideEnd}
-use Rattle.oas_prepare.specs.oas_wide.declared.records.WideRecord.{WideRecord}
-use Rattle.oas_prepare.specs.oas_wide.declared.records.WideRecord.TheVariants.{End}
-use Rattle.oas_prepare.specs.oas_wide.WideRecords.{is_profile_id, foreign, fields_in}
-use Rattle.oas_prepare.specs.oas_narrow.WideFiles.{end_in}
+use Rattle.oas_prepare.specs.WideEnd.{WideEnd}
+use Rattle.oas_prepare.specs.WideRecord.{WideRecord}
+use Rattle.oas_prepare.specs.WideRecord.TheVariants.{End}
+use Rattle.oas_prepare.specs.WideRecords.{is_profile_id, foreign, fields_in}
+use Rattle.oas_prepare.specs.WideFiles.{end_in}
 
 -- no END is spelled so
 record NoEnd (spells : WideRecord → List ℕ → Type 0) : Type 0 where

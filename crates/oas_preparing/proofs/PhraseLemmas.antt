@@ -4,10 +4,10 @@ use Rattle.std.specs.Prelude.{codes, ◌==◌, ◌&&◌}
 use Rattle.std.proofs.lemmas.Bool.{lt-ltb, le-ltb, ltb-false}
 use Rattle.oas_num.specs.Writing.{Puts, PutsPrefix}
 use Rattle.oas_num.proofs.PuttingLemmas.{PutSoFar, fails_at, ◌▸◌}
-use Rattle.oas_prepare.specs.oas_narrow.declared.dropping.Extra.{Extra}
-use Rattle.oas_prepare.specs.oas_narrow.declared.dropping.Extra.TheVariants.{PropertyName, Property, LayerName, ExtensionName, ExtensionElement}
-use Rattle.oas_prepare.specs.oas_narrow.declared.dropping.Report.{Report}
-use Rattle.oas_prepare.specs.oas_narrow.Dropping.{nothing_left_out}
+use Rattle.oas_prepare.specs.Extra.{Extra}
+use Rattle.oas_prepare.specs.Extra.TheVariants.{PropertyName, Property, LayerName, ExtensionName, ExtensionElement}
+use Rattle.oas_prepare.specs.Report.{Report}
+use Rattle.oas_prepare.specs.Dropping.{nothing_left_out}
 use Rattle.oas_preparing.specs.Kinds.{kinds, left_out, name_for}
 use Rattle.oas_preparing.specs.Lines.{phrase, phrase_of, phrases, is_left_out, listed, line_of, report_line}
 

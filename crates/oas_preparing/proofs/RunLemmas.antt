@@ -3,9 +3,9 @@ use Rattle.oas_num.specs.Devices.{Calls}
 use Rattle.std.proofs.Common.{ℕ, List, Option, Result, Ok, Err, MutBor}
 use Rattle.oas_num.specs.Outlet.{Outlet}
 use Rattle.oas_num.specs.Outlets.{Opens, IsGiven, failures_of}
-use Rattle.oas_prepare.specs.oas_narrow.declared.dropping.Report.{Report}
-use Rattle.oas_prepare.specs.oas_narrow.declared.places.Rejection.{Rejection}
-use Rattle.oas_explain.proofs.oas_command_proofs.MessageLemmas.{GivenLine, told}
+use Rattle.oas_prepare.specs.Report.{Report}
+use Rattle.oas_prepare.specs.Rejection.{Rejection}
+use Rattle.oas_explain.proofs.MessageLemmas.{GivenLine, told}
 use Rattle.oas_preparing.specs.Lines.{report_line, rejection_line}
 use Rattle.oas_preparing.specs.Runs.{said, Ends}
 

@@ -1,31 +1,30 @@
 -- Two files that were read, and whether they are prepared to the same layout.
 use Rattle.std.proofs.Common.{◌≡◌, ◌↔◌, Bool, IsTrue, Ok, Err, sym, subst}
 use Rattle.oas_num.specs.Script.{Script}
-use Rattle.oas_layout.specs.declared.limits.Limits.{Limits}
-use Rattle.oas_layout.specs.declared.profile.Profile.{Profile}
-use Rattle.oas_layout.specs.Contents.{Contents, IsLayout, meaning_of}
-use Rattle.oas_layout.specs.Meaning.{SameLayout}
-use Rattle.oas_explain.specs.oas_command.oas_canon.declared.profile.TheConstants.{PROFILE}
-use Rattle.oas_explain.specs.oas_command.oas_canon.declared.sameness.Which.{Which}
-use Rattle.oas_explain.specs.oas_command.oas_canon.declared.sameness.Which.TheVariants.{First, Second}
-use Rattle.oas_explain.specs.oas_command.oas_canon.oas_form.Bytes.{canonical_bytes}
-use Rattle.oas_prepare.specs.oas_narrow.declared.dropping.Dropping.{Dropping}
-use Rattle.oas_prepare.specs.oas_narrow.declared.dropping.Report.{Report}
-use Rattle.oas_prepare.specs.oas_narrow.declared.places.Rejection.{Rejection}
+use Rattle.oas_elements.specs.declared.limits.Limits.{Limits}
+use Rattle.oas_elements.specs.declared.profile.Profile.{Profile}
+use Rattle.oas_elements.specs.Contents.{Contents, meaning_of}
+use Rattle.oas_elements.specs.Meaning.{SameLayout}
+use Rattle.oas_explain.specs.ProfileConstants.{PROFILE}
+use Rattle.oas_explain.specs.Which.{Which}
+use Rattle.oas_explain.specs.Which.TheVariants.{First, Second}
+use Rattle.oas_explain.specs.Bytes.{canonical_bytes}
+use Rattle.oas_prepare.specs.NarrowDropping.{Dropping}
+use Rattle.oas_prepare.specs.Report.{Report}
+use Rattle.oas_prepare.specs.Rejection.{Rejection}
 use Rattle.oas_prepare.specs.Finishing.{IsReadPrepared}
 use Rattle.oas_prepare.proofs.Whole.{taken, exactly_done, exactly_stopped}
 use Rattle.oas_prepare.proofs.Sameness.{same_exactly, equal_exactly}
-use Rattle.oas_preparing.specs.declared.sameness.Comparison.{Comparison}
-use Rattle.oas_preparing.specs.Sameness.{ReadsBoth, IsCompared, ComparesPrepared}
+use Rattle.oas_preparing.specs.Sameness.{ReadsBoth, ComparesPrepared}
 
 module _ {T : Type 0} (script : T → Script) {limits : Limits} {dropping : Dropping} {old new : Script} {before after : T} where
   pub compared : {l k : Contents} {a b : Report} (same : Bool) → IsReadPrepared limits PROFILE dropping old l a new → IsReadPrepared limits PROFILE dropping (script before) k b (script after) →
-      IsLayout l → IsLayout k → (IsTrue same ↔ SameLayout l.profile (meaning_of l) (meaning_of k)) →
+      (IsTrue same ↔ SameLayout l.profile (meaning_of l) (meaning_of k)) →
       ComparesPrepared script limits dropping old new before after (Ok (record { same = same; first = a; second = b }))
-  compared {l = l} {k = k} same one other held kept h =
-      let first = taken one held in
-      let second = taken other kept in
-      let alike = equal_exactly one other held kept in
+  compared {l = l} {k = k} same one other h =
+      let first = taken one in
+      let second = taken other in
+      let alike = equal_exactly one other in
       let equal : IsTrue same ↔ (canonical_bytes (meaning_of l) ≡ canonical_bytes (meaning_of k)) = (
         λ t. alike.1 (subst (λ (p : Profile). SameLayout p (meaning_of l) (meaning_of k)) one.by (h.0 t)),
         λ e. h.1 (subst (λ (p : Profile). SameLayout p (meaning_of l) (meaning_of k)) (sym one.by) (alike.0 e)),
@@ -42,7 +41,7 @@ module _ {T : Type 0} (script : T → Script) {limits : Limits} {dropping : Drop
         };
         first = tt;
         second = tt;
-        exactly = (exactly_done one held, exactly_done other kept);
+        exactly = (exactly_done one, exactly_done other);
       }
 
   pub uncompared : (e : Which × Rejection) → ReadsBoth script limits dropping old new before after (Err e) → ComparesPrepared script limits dropping old new before after (Err e)

@@ -5,14 +5,14 @@ use Rattle.sha2.specs.Sha256.{sha256}
 use Rattle.oas_num.specs.declared.refusals.Refusal.{Refusal}
 use Rattle.oas_num.specs.Script.{Script}
 use Rattle.oas_num.specs.Written.{IsCutOff}
-use Rattle.oas_layout.specs.declared.limits.Limits.{Limits}
-use Rattle.oas_explain.specs.oas_command.declared.lines.Label.{Label}
-use Rattle.oas_explain.specs.oas_command.Lines.{named_key_line}
-use Rattle.oas_explain.specs.oas_command.oas_canon.declared.profile.TheConstants.{PROFILE}
-use Rattle.oas_prepare.specs.oas_narrow.declared.dropping.Dropping.{Dropping}
-use Rattle.oas_prepare.specs.oas_narrow.declared.dropping.Report.{Report}
-use Rattle.oas_prepare.specs.oas_narrow.declared.places.Rejection.{Rejection}
-use Rattle.oas_prepare.specs.oas_narrow.Rejections.{refused}
+use Rattle.oas_elements.specs.declared.limits.Limits.{Limits}
+use Rattle.oas_explain.specs.Label.{Label}
+use Rattle.oas_explain.specs.Lines.{named_key_line}
+use Rattle.oas_explain.specs.ProfileConstants.{PROFILE}
+use Rattle.oas_prepare.specs.NarrowDropping.{Dropping}
+use Rattle.oas_prepare.specs.Report.{Report}
+use Rattle.oas_prepare.specs.Rejection.{Rejection}
+use Rattle.oas_prepare.specs.Rejections.{refused}
 use Rattle.oas_prepare.specs.Run.{IsTaken, Stops, Exactly}
 
 -- ---- how a run ends

@@ -2,15 +2,15 @@
 use Rattle.std.specs.Prelude.{◌≡◌, ◌↔◌, ℕ, ◌-◌, Bool, List, Result, Ok, Err, IfOk, IfErr, IsTrue}
 use Rattle.oas_num.specs.declared.refusals.Why.TheVariants.{Memory}
 use Rattle.oas_num.specs.Script.{Script}
-use Rattle.oas_layout.specs.declared.limits.Limits.{Limits}
-use Rattle.oas_explain.specs.oas_command.declared.lines.Label.{Label}
-use Rattle.oas_explain.specs.oas_command.Lines.{named_check_line}
-use Rattle.oas_explain.specs.oas_command.Runs.{verdict_status}
-use Rattle.oas_explain.specs.oas_command.oas_canon.declared.profile.TheConstants.{PROFILE}
-use Rattle.oas_prepare.specs.oas_narrow.declared.dropping.Dropping.{Dropping}
-use Rattle.oas_prepare.specs.oas_narrow.declared.dropping.Report.{Report}
-use Rattle.oas_prepare.specs.oas_narrow.declared.places.Rejection.{Rejection}
-use Rattle.oas_prepare.specs.oas_narrow.Rejections.{refused}
+use Rattle.oas_elements.specs.declared.limits.Limits.{Limits}
+use Rattle.oas_explain.specs.Label.{Label}
+use Rattle.oas_explain.specs.Lines.{named_check_line}
+use Rattle.oas_explain.specs.Runs.{verdict_status}
+use Rattle.oas_explain.specs.ProfileConstants.{PROFILE}
+use Rattle.oas_prepare.specs.NarrowDropping.{Dropping}
+use Rattle.oas_prepare.specs.Report.{Report}
+use Rattle.oas_prepare.specs.Rejection.{Rejection}
+use Rattle.oas_prepare.specs.Rejections.{refused}
 use Rattle.oas_prepare.specs.Run.{IsTaken, Stops, Exactly}
 use Rattle.oas_preparing.specs.Answers.{reported}
 

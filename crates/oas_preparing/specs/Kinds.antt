@@ -1,8 +1,8 @@
 -- The kinds of records that are left out, in words.
 use Rattle.std.specs.Prelude.{ℕ, List, [], ◌∷◌, codes, ◌==◌, if◌then◌else◌}
-use Rattle.oas_prepare.specs.oas_narrow.declared.dropping.Extra.{Extra}
-use Rattle.oas_prepare.specs.oas_narrow.declared.dropping.Extra.TheVariants.{PropertyName, Property, LayerName, ExtensionName, ExtensionElement}
-use Rattle.oas_prepare.specs.oas_narrow.declared.dropping.Report.{Report}
+use Rattle.oas_prepare.specs.Extra.{Extra}
+use Rattle.oas_prepare.specs.Extra.TheVariants.{PropertyName, Property, LayerName, ExtensionName, ExtensionElement}
+use Rattle.oas_prepare.specs.Report.{Report}
 
 -- all kinds, in the order of a line
 abbrev pub kinds : List Extra

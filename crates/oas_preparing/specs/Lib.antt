@@ -1,3 +1,4 @@
+pub use Rattle.oas_explain.specs.Session
 pub mod Kinds
 pub mod Lines
 pub mod Runs
@@ -5,4 +6,3 @@ pub mod Answers
 pub mod Sameness
 pub mod Keeping
 pub mod Checks
-pub use Rattle.oas_explain.specs as oas_explain

@@ -1,11 +1,11 @@
 -- The lines that the command writes to its error output.
 use Rattle.std.specs.Prelude.{ℕ, Bool, List, [], ◌∷◌, ◌++◌, codes, decimal, map, filter, nat_lt}
-use Rattle.oas_prepare.specs.oas_narrow.declared.dropping.Extra.{Extra}
-use Rattle.oas_prepare.specs.oas_narrow.declared.dropping.Report.{Report}
-use Rattle.oas_prepare.specs.oas_narrow.declared.places.Place.{Place}
-use Rattle.oas_prepare.specs.oas_narrow.declared.places.Place.TheVariants.{File, Block}
-use Rattle.oas_prepare.specs.oas_narrow.declared.places.Rejection.{Rejection}
-use Rattle.oas_prepare.specs.oas_wide.Reasons.{wide_number_of}
+use Rattle.oas_prepare.specs.Extra.{Extra}
+use Rattle.oas_prepare.specs.Report.{Report}
+use Rattle.oas_prepare.specs.Place.{Place}
+use Rattle.oas_prepare.specs.Place.TheVariants.{File, Block}
+use Rattle.oas_prepare.specs.Rejection.{Rejection}
+use Rattle.oas_prepare.specs.StandardReasons.{wide_number_of}
 use Rattle.oas_preparing.specs.Kinds.{kinds, left_out, name_for}
 
 -- ---- what was left out

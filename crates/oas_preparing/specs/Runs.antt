@@ -3,16 +3,16 @@ use Rattle.oas_num.specs.Devices.{Calls}
 use Rattle.std.specs.Prelude.{◌≡◌, ℕ, List, Option, Result, Ok, Err, IfOk, IfErr, ◌⊎◌}
 use Rattle.oas_num.specs.declared.refusals.Why.TheVariants.{Write as NotWritten}
 use Rattle.oas_num.specs.Script.{Script}
-use Rattle.oas_layout.specs.declared.limits.Limits.{Limits}
-use Rattle.oas_explain.specs.oas_command.oas_canon.declared.profile.TheConstants.{PROFILE}
-use Rattle.oas_prepare.specs.oas_wide.declared.reasons.WideWhy.TheVariants.{Profile as ByProfile}
-use Rattle.oas_prepare.specs.oas_narrow.declared.dropping.Dropping.{Dropping}
-use Rattle.oas_prepare.specs.oas_narrow.declared.dropping.Report.{Report}
-use Rattle.oas_prepare.specs.oas_narrow.declared.places.Rejection.{Rejection}
-use Rattle.oas_prepare.specs.oas_narrow.Dropping.{nothing_left_out}
+use Rattle.oas_elements.specs.declared.limits.Limits.{Limits}
+use Rattle.oas_explain.specs.ProfileConstants.{PROFILE}
+use Rattle.oas_prepare.specs.WideWhy.TheVariants.{Profile as ByProfile}
+use Rattle.oas_prepare.specs.NarrowDropping.{Dropping}
+use Rattle.oas_prepare.specs.Report.{Report}
+use Rattle.oas_prepare.specs.Rejection.{Rejection}
+use Rattle.oas_prepare.specs.Dropping.{nothing_left_out}
 use Rattle.oas_prepare.specs.Reasons.{IsReasoned}
 use Rattle.oas_prepare.specs.Run.{IsDone, IsCut, IsStopped, IsPlaced, Exactly}
-use Rattle.oas_explain.specs.oas_command.Runs.{Tells}
+use Rattle.oas_explain.specs.Runs.{Tells}
 use Rattle.oas_preparing.specs.Lines.{report_line, rejection_line}
 
 -- `prepare`: all was read, and the canonical file of what its records are translated to was written; or it stops, at a place

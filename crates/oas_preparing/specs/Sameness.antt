@@ -1,17 +1,17 @@
 -- Whether two files are prepared to the same layout: what is found, and how the run ends.
 use Rattle.std.specs.Prelude.{◌≡◌, ◌↔◌, ℕ, Bool, List, ◌++◌, Result, Ok, Err, IfOk, IfErr, IsTrue}
 use Rattle.oas_num.specs.Script.{Script}
-use Rattle.oas_layout.specs.declared.limits.Limits.{Limits}
-use Rattle.oas_layout.specs.Contents.{Contents}
-use Rattle.oas_layout.specs.Meaning.{SameLayout}
-use Rattle.oas_explain.specs.oas_command.Lines.{same_line}
-use Rattle.oas_explain.specs.oas_command.Runs.{name_of, verdict_status, Tells}
-use Rattle.oas_explain.specs.oas_command.oas_canon.declared.profile.TheConstants.{PROFILE}
-use Rattle.oas_explain.specs.oas_command.oas_canon.declared.sameness.Which.{Which}
-use Rattle.oas_explain.specs.oas_command.oas_canon.declared.sameness.Which.TheVariants.{First, Second}
-use Rattle.oas_prepare.specs.oas_narrow.declared.dropping.Dropping.{Dropping}
-use Rattle.oas_prepare.specs.oas_narrow.declared.dropping.Report.{Report}
-use Rattle.oas_prepare.specs.oas_narrow.declared.places.Rejection.{Rejection}
+use Rattle.oas_elements.specs.declared.limits.Limits.{Limits}
+use Rattle.oas_elements.specs.Contents.{Contents}
+use Rattle.oas_elements.specs.Meaning.{SameLayout}
+use Rattle.oas_explain.specs.Lines.{same_line}
+use Rattle.oas_explain.specs.Runs.{name_of, verdict_status, Tells}
+use Rattle.oas_explain.specs.ProfileConstants.{PROFILE}
+use Rattle.oas_explain.specs.Which.{Which}
+use Rattle.oas_explain.specs.Which.TheVariants.{First, Second}
+use Rattle.oas_prepare.specs.NarrowDropping.{Dropping}
+use Rattle.oas_prepare.specs.Report.{Report}
+use Rattle.oas_prepare.specs.Rejection.{Rejection}
 use Rattle.oas_prepare.specs.Finishing.{ReadsPrepared}
 use Rattle.oas_prepare.specs.Run.{IsTaken, Stops, Exactly}
 use Rattle.oas_preparing.specs.declared.sameness.Comparison.{Comparison}

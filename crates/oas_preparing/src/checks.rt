@@ -2,8 +2,8 @@
 
 ghost use Rattle.std.specs.Prelude.{◌≡◌, Bool, Result, Ok};
 ghost use Rattle.oas_num.specs.declared.refusals.Refusal.{Refusal as Refused};
-ghost use Rattle.oas_prepare.specs.oas_narrow.declared.dropping.Report.{Report as LeftOut};
-ghost use Rattle.oas_prepare.specs.oas_narrow.declared.places.Rejection.{Rejection as Rejected};
+ghost use Rattle.oas_prepare.specs.Report.{Report as LeftOut};
+ghost use Rattle.oas_prepare.specs.Rejection.{Rejection as Rejected};
 ghost use Rattle.oas_preparing.specs.Answers.{reported, answered, Delivers};
 ghost use Rattle.oas_preparing.specs.Checks.{ChecksPrepared, unkept, check_text, check_status};
 ghost use Rattle.oas_preparing.specs.Runs.{Ends};
@@ -11,11 +11,10 @@ ghost use Rattle.oas_preparing.specs.Runs.{Ends};
 use crate::ends::reject;
 use crate::keeping::read_kept;
 use crate::lines::put_report;
-use oas_explain::oas_command::oas_canon::oas_form::has_canonical_bytes;
-use oas_explain::oas_command::{Label, status_of_verdict, write_named_check};
-use oas_layout::Limits;
+use oas_elements::Limits;
+use oas_explain::{Label, has_canonical_bytes, status_of_verdict, write_named_check};
 use oas_num::{Device, Refusal, Sink, Source, Why};
-use oas_prepare::oas_narrow::{Dropping, Rejection, Report};
+use oas_prepare::{Dropping, Rejection, Report};
 use std::alloc::Global;
 
 /// How many bytes END has.

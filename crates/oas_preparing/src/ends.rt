@@ -2,13 +2,13 @@
 
 ghost use Rattle.std.specs.Prelude.{◌≡◌};
 ghost use Rattle.oas_preparing.specs.Answers.{answered};
-ghost use Rattle.oas_explain.specs.oas_command.Runs.{Tells};
+ghost use Rattle.oas_explain.specs.Runs.{Tells};
 ghost use Rattle.oas_preparing.specs.Lines.{rejection_line};
 ghost use Rattle.oas_preparing.specs.Runs.{status_of, Ends};
 
 use crate::lines::{put_rejection, put_report};
 use oas_num::{Refusal, Sink};
-use oas_prepare::oas_narrow::{Rejection, Report};
+use oas_prepare::{Rejection, Report};
 
 /// The status of a run that did what was asked.
 const DONE: u8 = 0;

@@ -2,16 +2,15 @@
 
 ghost use Rattle.std.specs.Prelude.{◌≡◌, ◌++◌, ◌∷◌, [], IfOk, IfErr, IfSome, IsSomeAnd, option_map};
 ghost use Rattle.oas_num.specs.Script.{Consumed};
-ghost use Rattle.oas_explain.specs.oas_command.oas_canon.declared.profile.TheConstants.{PROFILE as OfProgram};
+ghost use Rattle.oas_explain.specs.ProfileConstants.{PROFILE as OfProgram};
 ghost use Rattle.oas_prepare.specs.Finishing.{IsReadPrepared};
 ghost use Rattle.oas_prepare.specs.Run.{Stops};
 ghost use Rattle.oas_preparing.specs.Keeping.{IsKept, IsKept-prop};
 
-use oas_explain::oas_command::oas_canon::PROFILE;
-use oas_layout::{Layout, Limits};
+use oas_elements::Limits;
+use oas_explain::{Layout, PROFILE};
 use oas_num::{Source, SourceFault};
-use oas_prepare::oas_narrow::{Dropping, Rejection, Report};
-use oas_prepare::read_prepared;
+use oas_prepare::{Dropping, Rejection, Report, read_prepared};
 use std::alloc::Global;
 use std::marker::{Brand, PhantomData};
 

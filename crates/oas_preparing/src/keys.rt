@@ -1,18 +1,16 @@
 //! The key of what a file is prepared to.
 
 ghost use Rattle.std.specs.Prelude.{◌≡◌, ℕ, List, Result};
-ghost use Rattle.oas_prepare.specs.oas_narrow.declared.dropping.Report.{Report as LeftOut};
-ghost use Rattle.oas_prepare.specs.oas_narrow.declared.places.Rejection.{Rejection as Rejected};
+ghost use Rattle.oas_prepare.specs.Report.{Report as LeftOut};
+ghost use Rattle.oas_prepare.specs.Rejection.{Rejection as Rejected};
 ghost use Rattle.oas_preparing.specs.Answers.{reported, key_text, KeysPrepared, Delivers};
 ghost use Rattle.oas_preparing.specs.Runs.{status_of, Ends};
 
 use crate::ends::{answered, conclude, reject};
-use oas_explain::oas_command::oas_canon::{PROFILE, layout_key};
-use oas_explain::oas_command::{Label, write_named_key};
-use oas_layout::Limits;
+use oas_elements::Limits;
+use oas_explain::{Label, PROFILE, layout_key, write_named_key};
 use oas_num::{Device, Sink, Source};
-use oas_prepare::oas_narrow::{Dropping, Rejection, Report};
-use oas_prepare::read_prepared;
+use oas_prepare::{Dropping, Rejection, Report, read_prepared};
 use std::alloc::Global;
 
 /// The key of the canonical file that [`prepare`](oas_prepare::prepare) writes for all that `from` gives, and what was left
@@ -27,8 +25,6 @@ pub fn prepared_key<S: Source>(
     ensures { KeysPrepared limits dropping (S.script from.old) result (S.script from.new) }
 {
     let (layout, report) = read_prepared(alloc, from, limits, PROFILE, dropping)?;
-    // `Layout::cell_count` says what holds for each layout.
-    let _ = layout.cell_count();
     Ok((layout_key(&layout), report))
 }
 

@@ -3,7 +3,7 @@
 ghost use Rattle.std.specs.Prelude.{◌≡◌};
 ghost use Rattle.oas_preparing.specs.Kinds.{left_out, singular, plural, name_for};
 
-use oas_prepare::oas_narrow::{Extra, Report};
+use oas_prepare::{Extra, Report};
 
 /// All kinds, in the order of a line.
 pub(crate) const KINDS: [Extra; 5] = [

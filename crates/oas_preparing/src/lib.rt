@@ -39,7 +39,7 @@
 //! - src/sameness.rt: two layouts that were read are compared as they are (`Layout::same`). That their canonical files are
 //!   equal exactly if they are the same is proved in oas_prepare (proofs/Sameness.antt).
 //! - src/checks.rt: the bytes of a file are compared with the canonical ones of the layout that it was read to, as these are
-//!   made (`has_canonical_bytes` of oas_form). src/keeping.rt: the file is read through a source that keeps the bytes as they
+//!   made (`has_canonical_bytes` of oas_writing). src/keeping.rt: the file is read through a source that keeps the bytes as they
 //!   are taken (`IsKept`, specs/Keeping.antt). It has the script of the source below, so the read stops as it would without
 //!   it. If there is no memory for a byte, nothing is kept any more and the read goes on: a file that isn't prepared is
 //!   refused for its own reason, and one that is, as out of memory at END. That may happen to each file that is prepared, so
@@ -63,10 +63,12 @@ mod sameness;
 pub use checks::{check_telling, prepared_check};
 pub use keys::{key_telling, prepared_key};
 pub use lines::{put_rejection, put_report};
-pub use oas_explain;
-pub use oas_explain::oas_command;
-pub use oas_explain::oas_command::oas_canon;
-pub use oas_prepare;
-pub use oas_prepare::{oas_narrow, oas_wide};
+pub use oas_explain::{
+    Asked, BINARY, CANONICAL, End, Existing, Incoming, Label, Limits, Named, OfEach, Onward,
+    Outcome, Outgoing, Outlet, PROFILE, Pair, Printed, ReaderSource, Said, Session, SliceSource,
+    Source, Why, ended, ended_by_text, file_of_word, label_of, mark_output, misused, name_of,
+    of_all, of_listed, words_of,
+};
+pub use oas_prepare::{Dropping, Place, Rejection, Report, WideWhy, prepare};
 pub use runs::{prepare_telling, run_prepare};
 pub use sameness::{Comparison, prepared_same, same_telling};

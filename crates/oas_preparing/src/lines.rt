@@ -2,13 +2,13 @@
 
 ghost use Rattle.std.specs.Prelude.{◌≡◌, ◌++◌, flat_map};
 ghost use Rattle.oas_num.specs.Writing.{Writes};
-ghost use Rattle.oas_prepare.specs.oas_narrow.Dropping.{nothing_left_out};
+ghost use Rattle.oas_prepare.specs.Dropping.{nothing_left_out};
 ghost use Rattle.oas_preparing.specs.Lines.{phrase, phrases, listed, report_line, rejection_line};
 
 use crate::kinds::{KINDS, left_out, name_for};
 use itoa::Buffer;
 use oas_num::{Sink, SinkFault};
-use oas_prepare::oas_narrow::{Extra, Place, Rejection, Report};
+use oas_prepare::{Extra, Place, Rejection, Report};
 
 /// Puts pieces one after another.
 fn put_pieces<K: Sink>(told: &mut K, pieces: &[&[u8]]) -> Result<(), SinkFault>

@@ -1,17 +1,16 @@
 //! The run of the command.
 
 ghost use Rattle.std.specs.Prelude.{◌≡◌, Result};
-ghost use Rattle.oas_prepare.specs.oas_narrow.declared.dropping.Report.{Report as LeftOut};
-ghost use Rattle.oas_prepare.specs.oas_narrow.declared.places.Rejection.{Rejection as Rejected};
-ghost use Rattle.oas_explain.specs.oas_command.Runs.{Says};
+ghost use Rattle.oas_prepare.specs.Report.{Report as LeftOut};
+ghost use Rattle.oas_prepare.specs.Rejection.{Rejection as Rejected};
+ghost use Rattle.oas_explain.specs.Runs.{Says};
 ghost use Rattle.oas_preparing.specs.Runs.{Prepares, status_of, said, Ends};
 
 use crate::ends::conclude;
-use oas_explain::oas_command::oas_canon::PROFILE;
-use oas_layout::Limits;
+use oas_elements::Limits;
+use oas_explain::PROFILE;
 use oas_num::{Device, Outlet, Sink, Source};
-use oas_prepare::oas_narrow::Dropping;
-use oas_prepare::prepare;
+use oas_prepare::{Dropping, prepare};
 use std::alloc::Global;
 
 /// Writes the canonical bytes of what the records of all that `from` gives are translated to, within these limits and without

@@ -2,8 +2,8 @@
 
 ghost use Rattle.std.specs.Prelude.{◌≡◌, ◌++◌, Result};
 ghost use Rattle.oas_num.specs.Writing.{Writes};
-ghost use Rattle.oas_explain.specs.oas_command.oas_canon.declared.sameness.Which.{Which as WhichFile};
-ghost use Rattle.oas_prepare.specs.oas_narrow.declared.places.Rejection.{Rejection as Rejected};
+ghost use Rattle.oas_explain.specs.Which.{Which as WhichFile};
+ghost use Rattle.oas_prepare.specs.Rejection.{Rejection as Rejected};
 ghost use Rattle.oas_preparing.specs.declared.sameness.Comparison.{Comparison as Compared};
 ghost use Rattle.oas_preparing.specs.Answers.{answered, Delivers};
 ghost use Rattle.oas_preparing.specs.Lines.{report_line};
@@ -11,12 +11,10 @@ ghost use Rattle.oas_preparing.specs.Sameness.{ReadsBoth, ComparesPrepared, same
 
 use crate::ends::reject;
 use crate::lines::put_report;
-use oas_explain::oas_command::oas_canon::{PROFILE, Which};
-use oas_explain::oas_command::{status_of_verdict, write_sameness};
-use oas_layout::{Layout, Limits};
+use oas_elements::Limits;
+use oas_explain::{Layout, PROFILE, Which, status_of_verdict, write_sameness};
 use oas_num::{Device, Refusal, Sink, SinkFault, Source};
-use oas_prepare::oas_narrow::{Dropping, Rejection, Report};
-use oas_prepare::read_prepared;
+use oas_prepare::{Dropping, Rejection, Report, read_prepared};
 use std::alloc::Global;
 
 /// Whether two files mean the same layout, and what was left out of each.
@@ -62,16 +60,11 @@ pub fn prepared_same<S: Source, T: Source>(
     ensures { ComparesPrepared T.script limits dropping (S.script a.old) (S.script a.new) b.old b.new result }
 {
     match read_both(alloc, a, b, limits, dropping) {
-        Ok(((one, first), (other, second))) => {
-            // `Layout::cell_count` says what holds for each layout.
-            let _ = one.cell_count();
-            let _ = other.cell_count();
-            Ok(Comparison {
-                same: one.same(&other),
-                first,
-                second,
-            })
-        }
+        Ok(((one, first), (other, second))) => Ok(Comparison {
+            same: one.same(&other),
+            first,
+            second,
+        }),
         Err(rejected) => Err(rejected),
     }
 }

@@ -1,3 +1,2 @@
+pub use Rattle.oas_diff_options.specs.declared.options.Options as DiffOptions
 pub mod Options
-pub use Rattle.oas_difference.specs as oas_difference
-pub use Rattle.oas_files.specs as oas_files

@@ -1,6 +1,6 @@
 -- The options of the run that `diff` asks for.
 use Rattle.std.specs.Prelude.{◌≡◌, ℕ, List, Option, option_map, option_copied, vec_items}
-use Rattle.oas_difference.specs.declared.options.Options.{Options}
+use Rattle.oas_diff_options.specs.declared.options.Options.{Options}
 use Rattle.oas_request.specs.declared.differences.Asked.{Asked}
 
 -- the cells, the layers, the detail, the format and the limit that are asked for

@@ -4,7 +4,7 @@ ghost use Rattle.std.specs.Prelude.{◌≡◌, option_copied, option_map, vec_it
 
 use crate::commands::{Task, two_of};
 use clap::ArgMatches;
-use oas_difference::{Choice, ChosenLayer, Detail, Format, Measure, Options, Syntax};
+use oas_diff_options::{Choice, ChosenLayer, Detail, Format, Measure, Options, Syntax};
 use oas_files::file_of_word;
 use std::alloc::{AllocError, Global};
 

@@ -24,6 +24,8 @@ mod usage;
 // The crates below, for those above.
 pub use commands::{Request, Task, parse, request_of};
 pub use differences::{Asked, Markers};
-pub use oas_difference;
-pub use oas_files;
+pub use oas_diff_options::{ChosenLayer, Detail, Format, Measure, PLAIN, Syntax};
+pub use oas_files::{
+    Existing, Input, Names, NewFile, Place, Printed, Replacement, file_of_word, text_of, unescaped,
+};
 pub use questions::{Ending, Inputs, Question};

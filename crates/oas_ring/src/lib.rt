@@ -38,7 +38,7 @@
 //! | rectangles.rt | `Corners`, `as_box` |
 //! | laws.rt | the laws, from the definitions alone |
 //!
-//! `crates/shape_tests` has the tests of this crate and of oas_shape; its src/plain.rt has a plain reference that they
+//! `crates/bytes_tests` has the tests of this crate, in src/rings; plain.rt there has a plain reference that they
 //! compare with.
 //!
 //! How the proof goes. A rotation is stated by a number (drop and take, so there is no remainder and no empty case). Where

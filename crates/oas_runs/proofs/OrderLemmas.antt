@@ -1,101 +1,100 @@
--- The cells of an accepted file, put in order, are a layout, which is the same as the file's meaning.
-use Rattle.std.proofs.Common.{◌≡◌, ℕ, ◌≤◌, List, [], ◌∷◌, refl, sym, ap, ◌∙◌, subst, arith}
+-- Eight bytes of two keys, compared as numbers.
+use Rattle.std.specs.Prelude.{◌≡◌, ◌≢◌, ℕ, ◌+◌, ◌*◌, ◌<◌, ◌≤◌, List, [], ◌∷◌, ◌++◌, length, take, drop, zero, suc, refl}
+use Rattle.std.specs.Int.{w64, from_be_bytes}
 use Rattle.std.specs.List.{AllByRecursion}
-use Rattle.std.specs.List.Sorted.{IsStrictlySortedBy}
-use Rattle.std.specs.Map.{keys_of}
-use Rattle.std.specs.Ordering.{nat_cmp}
+use Rattle.std.specs.Cmp.{ranked, nat_cmp_is, nat_cmp_total, tied_itself}
 use Rattle.std.specs.Cmp.Lexicographic.{slice_cmp}
-use Rattle.std.specs.FinMap.Entries.{put}
-use Rattle.oas_num.specs.Texts.{IsName}
-use Rattle.oas_layout.specs.declared.limits.Limits.{Limits}
-use Rattle.oas_layout.specs.declared.profile.Profile.{Profile}
-use Rattle.oas_layout.specs.declared.element.Element.{Element}
-use Rattle.oas_layout.specs.Bag.{items, with_more, IsBag}
-use Rattle.oas_layout.specs.Contents.{Cell, Contents, expanded, names, meaning_of, AllSound, IsCell, IsLayout}
-use Rattle.oas_layout.specs.Meaning.{Meaning, SameLayout, element_count, cells_weight}
-use Rattle.oas_layout.specs.Same.{normal}
-use Rattle.oas_form.specs.Records.{Cells}
-use Rattle.oas_form.proofs.DrawnSound.{IsSoundMeaning}
-use Rattle.oas_form.proofs.OrderedLayouts.{keys-expanded}
-use Rattle.oas_form.proofs.Sizes.{tally, tally_is_bag, ordered, is_ordered, in_order_same, ordered_count, ordered_weight}
-use Rattle.oas_runs.specs.declared.runs.CellRuns.{CellRuns}
-use Rattle.oas_runs.specs.Keyed.{keyed_cells}
-use Rattle.oas_runs.specs.Held.{AreSoundCells, HeldCells, cells_held, contents_of}
-use Rattle.oas_runs.specs.Laws.HeldLaws.{cells_are}
-use Rattle.oas_runs.specs.Counting.{counted, counted_cells, AreSound, IsInOrder}
-use Rattle.oas_runs.proofs.KeyedLemmas.{counted_sound}
-use Rattle.oas_runs.proofs.PlaceLemmas.{expanded-insert, names-insert, elements-insert}
+use Rattle.std.specs.Ordering.{nat_cmp, ordering_then}
+use Rattle.std.specs.declared.cmp.Ordering.TheVariants.{Less, Equal, Greater}
+use Rattle.std.proofs.Common.{sym, ◌∙◌, ap, arith, get_or}
 
-module _ (profile : Profile) where
-  counted_is : (xs : List Element) → counted profile xs ≡ tally profile xs
-  counted_is [] = refl
-  counted_is (x ∷ xs) = ap (λ (es : List (Element × ℕ)). with_more es (normal profile x) 1) (counted_is xs)
+abbrev AreBytes : List ℕ → Type 0
+AreBytes xs = AllByRecursion (λ x. x < 256) xs
 
-  -- with each element as often as it is there they are those of oas_form
-  pub expanded_is : (cs : Cells) → expanded (counted_cells profile cs) ≡ ordered profile cs
-  expanded_is [] = refl
-  expanded_is (c ∷ cs) =
-      expanded-insert (counted_cells profile cs) c.0 (counted profile c.1)
-      ∙ (λ i. put (slice_cmp nat_cmp) c.0 (items (counted_is c.1 i)) (expanded_is cs i))
+bytes-take : (n : ℕ) (xs : List ℕ) → ((k : ℕ) → get_or xs k 0 < 256) → AreBytes (take n xs)
+bytes-take zero xs h = tt
+bytes-take (suc n) [] h = tt
+bytes-take (suc n) (x ∷ xs) h = (h 0, bytes-take n xs (λ k. h (suc k)))
 
-  names_fit : (cs : Cells) → AllByRecursion (λ c. IsName c.0) cs → AllByRecursion (λ c. IsName c.0) (counted_cells profile cs)
-  names_fit [] h = tt
-  names_fit (c ∷ cs) h = names-insert IsName (counted_cells profile cs) c.0 (counted profile c.1) h.0 (names_fit cs h.1)
+-- a number, followed by bytes, the first of them highest
+abbrev number_on : ℕ → List ℕ → ℕ
+number_on n [] = n
+number_on n (x ∷ xs) = number_on (n * 256 + x) xs
 
-  are_bags : (cs : Cells) → AllByRecursion (λ c. IsBag profile c.1) (counted_cells profile cs)
-  are_bags [] = tt
-  are_bags (c ∷ cs) = elements-insert (IsBag profile) (counted_cells profile cs) c.0 (counted profile c.1) (subst (IsBag profile) (sym (counted_is c.1)) (tally_is_bag profile c.1)) (are_bags cs)
+less_on : (m n : ℕ) (xs ys : List ℕ) → length xs ≡ length ys → AreBytes xs → m < n → number_on m xs < number_on n ys
+less_on m n [] [] l b h = h
+less_on m n [] (y ∷ ys) l b h = absurd (omega (arith, l))
+less_on m n (x ∷ xs) [] l b h = absurd (omega (arith, l))
+less_on m n (x ∷ xs) (y ∷ ys) l b h = less_on (m * 256 + x) (n * 256 + y) xs ys (omega (arith, l)) b.1 (omega (arith, b.0, h))
 
-  are_sound : (cs : Cells) → AreSound cs → AllByRecursion (λ c. AllSound c.1) (counted_cells profile cs)
-  are_sound [] h = tt
-  are_sound (c ∷ cs) h = elements-insert AllSound (counted_cells profile cs) c.0 (counted profile c.1) (counted_sound profile c.1 h.0) (are_sound cs h.1)
+-- equally many bytes are ordered as their numbers, and where these tie what follows decides
+order_on : (n : ℕ) (xs ys us vs : List ℕ) → length xs ≡ length ys → AreBytes xs → AreBytes ys
+    → slice_cmp nat_cmp (xs ++ us) (ys ++ vs) ≡ ordering_then (nat_cmp (number_on n xs) (number_on n ys)) (slice_cmp nat_cmp us vs)
+order_on n [] [] us vs l a b = sym (ap (λ r. ordering_then r (slice_cmp nat_cmp us vs)) (tied_itself nat_cmp_total n))
+order_on n [] (y ∷ ys) us vs l a b = absurd (omega (arith, l))
+order_on n (x ∷ xs) [] us vs l a b = absurd (omega (arith, l))
+order_on n (x ∷ xs) (y ∷ ys) us vs l a b =
+    let long : length xs ≡ length ys = omega (arith, l) in
+    elim (nat_cmp x y) as (λ r. nat_cmp x y ≡ r → ordering_then r (slice_cmp nat_cmp (xs ++ us) (ys ++ vs))
+    ≡ ordering_then (nat_cmp (number_on (n * 256 + x) xs) (number_on (n * 256 + y) ys)) (slice_cmp nat_cmp us vs)) [
+      | Less ↦ λ e.
+          let h : x < y = ranked x y Less (sym e) in
+          let k = less_on (n * 256 + x) (n * 256 + y) xs ys long a.1 (omega (arith, h)) in
+          ap (λ r. ordering_then r (slice_cmp nat_cmp us vs)) (nat_cmp_is (number_on (n * 256 + x) xs) (number_on (n * 256 + y) ys) Less k)
+      | Equal ↦ λ e.
+          let h : x ≡ y = ranked x y Equal (sym e) in
+          order_on (n * 256 + x) xs ys us vs long a.1 b.1
+          ∙ ap (λ (z : ℕ). ordering_then (nat_cmp (number_on (n * 256 + x) xs) (number_on (n * 256 + z) ys)) (slice_cmp nat_cmp us vs)) h
+      | Greater ↦ λ e.
+          let h : y < x = ranked x y Greater (sym e) in
+          let k = less_on (n * 256 + y) (n * 256 + x) ys xs (sym long) b.1 (omega (arith, h)) in
+          ap (λ r. ordering_then r (slice_cmp nat_cmp us vs)) (nat_cmp_is (number_on (n * 256 + x) xs) (number_on (n * 256 + y) ys) Greater k)
+    ] refl
 
-  are_cells : (cs : List Cell) → AllByRecursion (λ c. IsName c.0) cs → AllByRecursion (λ c. IsBag profile c.1) cs → AllByRecursion (λ c. AllSound c.1) cs → AllByRecursion (IsCell profile) cs
-  are_cells [] n b s = tt
-  are_cells (c ∷ cs) n b s = (record { name = n.0; bag = b.0; sound = s.0 }, are_cells cs n.1 b.1 s.1)
+-- the first eight, and the rest
+record Eight (xs : List ℕ) : Type 0 where
+  long : length (take 8 xs) ≡ 8
+  whole : xs ≡ take 8 xs ++ drop 8 xs
+  number : from_be_bytes w64 (take 8 xs) ≡ number_on 0 (take 8 xs)
 
-  names_ascend : (cs : Cells) → IsStrictlySortedBy (slice_cmp nat_cmp) (names (counted_cells profile cs))
-  names_ascend cs =
-      subst (IsStrictlySortedBy (slice_cmp nat_cmp)) (ap (λ (ds : Cells). keys_of ds) (sym (expanded_is cs)) ∙ keys-expanded (counted_cells profile cs)) (is_ordered profile cs).names
+eight : (xs : List ℕ) → 8 ≤ length xs → Eight xs
+eight [] h = absurd (omega (arith, h))
+eight (a ∷ []) h = absurd (omega (arith, h))
+eight (a ∷ b ∷ []) h = absurd (omega (arith, h))
+eight (a ∷ b ∷ c ∷ []) h = absurd (omega (arith, h))
+eight (a ∷ b ∷ c ∷ d ∷ []) h = absurd (omega (arith, h))
+eight (a ∷ b ∷ c ∷ d ∷ e ∷ []) h = absurd (omega (arith, h))
+eight (a ∷ b ∷ c ∷ d ∷ e ∷ f ∷ []) h = absurd (omega (arith, h))
+eight (a ∷ b ∷ c ∷ d ∷ e ∷ f ∷ g ∷ []) h = absurd (omega (arith, h))
+eight (a ∷ b ∷ c ∷ d ∷ e ∷ f ∷ g ∷ i ∷ xs) h = record { long = refl; whole = refl; number = omega arith }
 
-  -- the layout of the meaning
-  abbrev pub layout_of : Limits → Meaning → Contents
-  layout_of limits m = contents_of m.unit limits profile (counted_cells profile m.cells)
+order_by : (xs ys : List ℕ) (m n : ℕ) → ((k : ℕ) → get_or xs k 0 < 256) → ((k : ℕ) → get_or ys k 0 < 256) → 8 ≤ length xs → 8 ≤ length ys
+    → m ≡ from_be_bytes w64 (take 8 xs) → n ≡ from_be_bytes w64 (take 8 ys)
+    → slice_cmp nat_cmp xs ys ≡ ordering_then (nat_cmp m n) (slice_cmp nat_cmp (drop 8 xs) (drop 8 ys))
+order_by xs ys m n a b h k e f =
+    let one = eight xs h in
+    let other = eight ys k in
+    (λ i. slice_cmp nat_cmp (one.whole i) (other.whole i))
+    ∙ order_on 0 (take 8 xs) (take 8 ys) (drop 8 xs) (drop 8 ys) (one.long ∙ sym other.long) (bytes-take 8 xs a) (bytes-take 8 ys b)
+    ∙ sym (λ i. ordering_then (nat_cmp ((e ∙ one.number) i) ((f ∙ other.number) i)) (slice_cmp nat_cmp (drop 8 xs) (drop 8 ys)))
 
-  -- it is a layout
-  pub is_layout : (limits : Limits) (m : Meaning) → IsSoundMeaning limits m → IsLayout (layout_of limits m)
-  is_layout limits m s =
-      let few : element_count (expanded (counted_cells profile m.cells)) ≡ element_count m.cells = ap element_count (expanded_is m.cells) ∙ ordered_count profile m.cells s.once in
-      let lighter : cells_weight (expanded (counted_cells profile m.cells)) ≤ cells_weight m.cells = subst (λ (ds : Cells). cells_weight ds ≤ cells_weight m.cells) (sym (expanded_is m.cells)) (ordered_weight profile m.cells s.once) in
-      record {
-        unit = s.spellable.unit;
-        limits = record { few = limits.few; light = limits.light; room = limits.room; short = limits.short };
-        cells = are_cells (counted_cells profile m.cells) (names_fit m.cells s.spellable.names) (are_bags m.cells) (are_sound m.cells s.spellable.sound);
-        ascending = names_ascend m.cells;
-        few = omega (arith, few, s.few);
-        light = omega (arith, lighter, s.light);
-      }
+-- where the numbers differ, they decide
+pub order_apart : (xs ys : List ℕ) (m n : ℕ) → ((k : ℕ) → get_or xs k 0 < 256) → ((k : ℕ) → get_or ys k 0 < 256) → 8 ≤ length xs → 8 ≤ length ys
+    → m ≡ from_be_bytes w64 (take 8 xs) → n ≡ from_be_bytes w64 (take 8 ys) → m ≢ n → nat_cmp m n ≡ slice_cmp nat_cmp xs ys
+order_apart xs ys m n a b h k e f d =
+    let rest = slice_cmp nat_cmp (drop 8 xs) (drop 8 ys) in
+    let is : ordering_then (nat_cmp m n) rest ≡ nat_cmp m n =
+    elim (nat_cmp m n) as (λ r. nat_cmp m n ≡ r → ordering_then r rest ≡ r) [
+      | Less ↦ λ u. refl
+      | Equal ↦ λ u. absurd (d (ranked m n Equal (sym u)))
+      | Greater ↦ λ u. refl
+    ] refl in
+    sym (order_by xs ys m n a b h k e f ∙ is)
 
-  -- and the same as the meaning
-  pub same_layout : (limits : Limits) (m : Meaning) → SameLayout profile (meaning_of (layout_of limits m)) m
-  same_layout limits m = subst (λ (ds : Cells). SameLayout profile (record { unit = m.unit; cells = ds }) m) (sym (expanded_is m.cells)) (in_order_same profile m)
-
-  -- its runs hold its cells
-  pub is_held : (m : Meaning) (k : CellRuns) → AreSound m.cells → IsInOrder profile k m → HeldCells k.cells.entries
-  is_held m k sound o = (counted_cells profile m.cells, are_sound m.cells sound, o.cells)
-
-  -- and are those of no other layout
-  pub is_it : (limits : Limits) (m : Meaning) (k : CellRuns) → AreSound m.cells → IsInOrder profile k m → (h : HeldCells k.cells.entries)
-      → contents_of k.unit limits profile (cells_held h) ≡ layout_of limits m
-  is_it limits m k sound o h = λ i. contents_of (o.unit i) limits profile (cells_are h (counted_cells profile m.cells) (are_sound m.cells sound) o.cells i)
-
--- what was made of runs in order is the layout of what is meant
-pub made_of : (profile : Profile) (limits : Limits) (m : Meaning) (k : CellRuns) (l : Contents) → IsSoundMeaning limits m → IsInOrder profile k m
-    → ((cs : List Cell) → AreSoundCells cs → k.cells.entries ≡ keyed_cells cs → l ≡ contents_of k.unit limits profile cs) → l ≡ layout_of profile limits m
-made_of profile limits m k l s o made =
-    made (counted_cells profile m.cells) (are_sound profile m.cells s.spellable.sound) o.cells ∙ (λ i. contents_of (o.unit i) limits profile (counted_cells profile m.cells))
-
--- they can be made one
-pub can_be_made : (profile : Profile) (limits : Limits) (m : Meaning) (k : CellRuns) → IsSoundMeaning limits m → IsInOrder profile k m → (h : HeldCells k.cells.entries)
-    → IsLayout (contents_of k.unit limits profile (cells_held h))
-can_be_made profile limits m k s o h = subst IsLayout (sym (is_it profile limits m k s.spellable.sound o h)) (is_layout profile limits m s)
+-- and where they are the same, what follows does
+pub order_behind : (xs ys : List ℕ) (m n : ℕ) → ((k : ℕ) → get_or xs k 0 < 256) → ((k : ℕ) → get_or ys k 0 < 256) → 8 ≤ length xs → 8 ≤ length ys
+    → m ≡ from_be_bytes w64 (take 8 xs) → n ≡ from_be_bytes w64 (take 8 ys) → m ≡ n → slice_cmp nat_cmp (drop 8 xs) (drop 8 ys) ≡ slice_cmp nat_cmp xs ys
+order_behind xs ys m n a b h k e f s =
+    let rest = slice_cmp nat_cmp (drop 8 xs) (drop 8 ys) in
+    let is : nat_cmp m n ≡ Equal = ap (λ (z : ℕ). nat_cmp z n) s ∙ tied_itself nat_cmp_total n in
+    sym (order_by xs ys m n a b h k e f ∙ ap (λ r. ordering_then r rest) is)

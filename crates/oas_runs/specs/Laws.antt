@@ -1,3 +1,3 @@
 -- What follows from the definitions. Nothing here has to be trusted.
-pub mod HeldLaws
-pub mod PointsLaws
+pub mod EntryLaws
+pub mod RunLaws

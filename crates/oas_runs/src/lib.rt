@@ -1,64 +1,45 @@
-//! A layout as runs of keys: read from a source, in little more memory than its distinct elements take.
+//! Entries as bytes, in blocks and in runs. An entry is a key, which is bytes, and its count.
 //!
 //! What this crate promises to the crates above it:
 //!
-//! - A [`CompactLayout`] holds the keys of a layout (oas_keys, oas_store): its cells by ascending names, and of each the run of its
-//!   elements' keys, ascending, each beside its count. It is seen as that layout, as a `Layout` of oas_layout is: its value is the
-//!   same `Contents`.
-//! - [`KeyedCells`], [`KeyedElements`] and [`KeyedElement`] are its cells and elements, one by one. An element is a key that is seen
-//!   as its element: it is compared by its bytes, and [`show`] gives its fields, of which a name, a string or points are those of the
-//!   key ([`ShownElement`], [`ShownPoints`]). Nothing is copied.
-//! - [`read_compact`] gives the layout of what a source gives in this form, exactly where `read_layout` of oas_file gives it, and
-//!   refuses it as that does: it has that call's promise (`ReadsLayout`).
-//! - [`finish_compact`] is its last step, for a reader that does more with each record: from what was taken to the runs of its cells
-//!   ([`CellRuns`], `IsInOrder`, specs/Counting.antt), or to what END is refused for. [`CompactLayout::of`] makes them a layout.
+//! - The bytes of an entry and of a block are in specs/Entries.antt. No bytes spell two lists of entries (specs/Laws).
+//!   [`read_entry`] reads the first entry, and [`after`] returns the bytes after it, which are entries again.
+//! - Contracts see a [`Block`] as the list of its entries that are left. One more can be put at its end; if out of memory
+//!   none is. A block can be cleared, and gives back idle memory. Its first entry and the bytes that are left can be read.
+//! - Contracts see a [`Run`] as the list of its entries that are left. Its first entry can be read and taken; a block that is
+//!   used up is freed. [`Run::entries`] iterates over all that are left, and `==` compares them (specs/Comparing.antt: it
+//!   holds exactly for equal lists).
+//! - A [`Growing`] run is written entry by entry into blocks of bytes. If out of memory it is unchanged. It becomes a [`Run`]
+//!   of the same entries without allocation. Before that, [`Growing::entries`] iterates over what was written, in no order:
+//!   whatever a key weighs, all together weigh the same. [`Growing::fit`] doesn't change the list.
+//! - [`merge_all`] moves two runs to the end of an empty one, and adds the counts of a key that both have. The result is a
+//!   run, with as much of each key as before (`IsMerging`, specs/Merging.antt). If out of memory in the middle, the three
+//!   together hold what the two did.
+//! - [`order_of`] compares two keys byte by byte. [`number_of`] is the number of eight bytes, with the first of them highest.
 //!
-//! Whether an allocation succeeds is outside every contract: what allocates may return `Why::Memory`.
+//! [`size_with`], [`Block::size`], [`Growing::size`] and [`Run::size`] say about how many bytes an entry, a block or a run
+//! has. They and [`BLOCK`], [`MARGIN`] and [`AT_ONCE`] only help to decide what to do: no contract is about them, about time
+//! or about bytes.
 //!
-//! # How it is built
-//!
-//! - src/reading.rt is `read_layout` over a reader with the stores of oas_compact. src/finishing.rt takes what that reader
-//!   hands over, has it accepted, and puts the run of each cell among those by name, from the last cell on, so that a cell's
-//!   store is freed before the next run is made. The room of the freed cells is given back each time when it is a sixteenth
-//!   of all (`fit`). It is public (`finish_compact`) for oas_judge, which does more with each record.
-//! - specs/Held.antt: keys are of one list of elements at most (specs/Laws/HeldLaws.antt), and what is left of a key has one list
-//!   of points at most (PointsLaws.antt). So a type that holds keys has a ghost field with that list, which is nothing at run
-//!   time, and is seen as it; proofs/HeldLemmas.antt has what is taken of both.
-//! - specs/Counting.antt: cells put in order, with their elements counted (`counted_cells`). They are those of `in_order` of
-//!   oas_form (proofs/OrderLemmas.antt), which are proved there to be the same layout and to keep its limits.
-//! - proofs/KeyedLemmas.antt has the step from keys to elements. A run that means some elements (`MeansElements` of
-//!   oas_compact) has the sums of their keys, so it is their tally (`run_is_tally` of oas_store); and since keys are ordered
-//!   as elements, that tally is the keys of the elements, counted (`run_is`).
-//! - `records_sound` of oas_form says that an accepted file's elements are sound, so keys distinguish them.
-//! - src/sameness.rt: `CompactLayout::same` compares units, names and runs, entry by entry (`==` of a `Run` of oas_entries),
-//!   and reads no element. Elements with equal keys are equal, so cells with equal runs are equal
-//!   (proofs/SamenessLemmas.antt), and oas_layout proves that these are the same layout.
+//! How keys are compared: eight bytes at once, as a number with the first byte highest, as long as both keys have eight more
+//! (proofs/OrderLemmas.antt: such numbers are ordered as their bytes), and then byte by byte. A merge frees each block that
+//! it has read.
 #![tactic(auto)]
 
-mod cells;
-mod element;
-mod elements;
-mod finishing;
-mod layout;
-mod points;
-mod reading;
-mod runs;
-mod sameness;
-mod showing;
-mod shown;
+mod block;
+mod comparing;
+mod entries;
+mod entry;
+mod growing;
+mod merge;
+mod ordering;
+mod room;
+mod run;
 
-// The crates below, for those above.
-pub use cells::KeyedCells;
-pub use element::KeyedElement;
-pub use elements::KeyedElements;
-pub use finishing::finish_compact;
-pub use layout::CompactLayout;
-pub use oas_compact;
-pub use oas_compact::oas_keys;
-pub use oas_form;
-pub use oas_form::{oas_file, oas_modal};
-pub use points::ShownPoints;
-pub use reading::read_compact;
-pub use runs::CellRuns;
-pub use showing::show;
-pub use shown::ShownElement;
+pub use block::{BLOCK, Block, MARGIN};
+pub use entries::Entries;
+pub use entry::{Entry, after, read_entry};
+pub use growing::{Growing, size_with};
+pub use merge::merge_all;
+pub use ordering::{AT_ONCE, number_of, order_of};
+pub use run::Run;

@@ -36,7 +36,7 @@
 //! - src/places.rt: a repetition as places with equally many copies on each, so that copies along a step of zero are counted
 //!   by multiplication. The law (`ArePlaces`, specs/Laws/PlaceLaws.antt) is about sums: whatever each offset counts for, all
 //!   copies together count for what the places do, times the copies on each. What crates above need of a list of copies are
-//!   such sums, and that each copy is within the grid, which is such a sum too (`fit_all`, oas_modal,
+//!   such sums, and that each copy is within the grid, which is such a sum too (`fit_all`, oas_reader,
 //!   proofs/CopyLemmas.antt).
 //! - The proof of a read is a chain of `Halfway` (its links in proofs/PointListLemmas and proofs/RepetitionLemmas), one line
 //!   for each exit. Lists are read under `Listed`; `Alternated` adds the axis of 1-deltas, `Summed` the sums so far. A sum

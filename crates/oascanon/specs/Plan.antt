@@ -1,16 +1,16 @@
 -- What a task comes to: which run, on which files, and to which output.
 use Rattle.std.specs.Prelude.{◌≡◌, ◌&&◌, ℕ, Bool, true, false, List, Option, None, Some, is_none}
 use Rattle.std.specs.Borrow.{Bor}
-use Rattle.oas_explain.specs.oas_command.declared.lines.Label.{Label}
-use Rattle.oas_explain.specs.oas_command.declared.work.Work.{Work}
-use Rattle.oas_explain.specs.oas_command.declared.work.Work.TheVariants as work
-use Rattle.oas_explain.specs.oas_command.declared.work.PairWork.{PairWork}
-use Rattle.oas_explain.specs.oas_command.declared.work.PairWork.TheVariants as pair
-use Rattle.oas_explain.specs.oas_command.oas_info.declared.form.Form.{Form}
-use Rattle.oas_explain.specs.oas_command.oas_info.declared.form.Form.TheVariants.{Text, Json}
-use Rattle.oas_request.specs.oas_difference.declared.options.Options.{Options}
-use Rattle.oas_explain.specs.oas_files.declared.replacing.Existing.{Existing}
-use Rattle.oas_explain.specs.oas_files.declared.replacing.Existing.TheVariants.{Replaced, Kept}
+use Rattle.oas_explain.specs.Label.{Label}
+use Rattle.oas_explain.specs.CommandWork.{Work}
+use Rattle.oas_explain.specs.CommandWork.TheVariants as work
+use Rattle.oas_explain.specs.PairWork.{PairWork}
+use Rattle.oas_explain.specs.PairWork.TheVariants as pair
+use Rattle.oas_explain.specs.Form.{Form}
+use Rattle.oas_explain.specs.Form.TheVariants.{Text, Json}
+use Rattle.oas_request.specs.DiffOptions.{Options}
+use Rattle.oas_explain.specs.Existing.{Existing}
+use Rattle.oas_explain.specs.Existing.TheVariants.{Replaced, Kept}
 use Rattle.oas_request.specs.declared.commands.Task.{Task}
 use Rattle.oas_request.specs.declared.commands.Task.TheVariants as task
 use Rattle.oas_request.specs.declared.differences.Asked.{Asked}

@@ -1,8 +1,7 @@
 //! What was asked of a file, for the advice below its refusal.
 
 use crate::plan::OneFile;
-use oas_explain::oas_command::Work;
-use oas_explain::{Asked, CANONICAL, Onward};
+use oas_explain::{Asked, CANONICAL, Onward, Work};
 
 impl<'a> OneFile<'a> {
     /// What was asked of this file.

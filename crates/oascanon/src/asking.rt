@@ -1,8 +1,7 @@
 //! A question about many files.
 
 use crate::plan::OneFile;
-use oas_explain::oas_command::{End, name_of};
-use oas_explain::{OfEach, Outcome, Session, label_of};
+use oas_explain::{End, OfEach, Outcome, Session, label_of, name_of};
 use oas_request::{Ending, Question};
 
 /// A question about each of many files, whose line has the file's name.

@@ -1,7 +1,6 @@
 //! Outputs that would overwrite a file which should stay.
 
-use oas_explain::Session;
-use oas_explain::oas_files::{is_same_file, is_taken};
+use oas_explain::{Session, is_same_file, is_taken};
 
 /// The status of a command line that requests what is not done.
 const MISUSED: u8 = 2;

@@ -1,10 +1,10 @@
 //! Saved keys, and whether they are still valid.
 
 use crate::asking::end_of;
-use oas_explain::oas_canon::Outlet;
-use oas_explain::oas_command::{KeptKey, Label, kept_telling};
-use oas_explain::oas_files::{Existing, Printed, text_of, unescaped};
-use oas_explain::{Asked, Incoming, OfItem, Onward, Outcome, Session, label_of, of_items};
+use oas_explain::{
+    Asked, Existing, Incoming, KeptKey, Label, OfItem, Onward, Outcome, Outlet, Printed, Session,
+    kept_telling, label_of, of_items, text_of, unescaped,
+};
 use oas_request::Ending;
 
 /// A list of saved keys, and how the result is printed.

@@ -15,15 +15,15 @@
 //! contract that has each task with all its options, and `src/main.rt` does what the plan says, in one `match`. `one_file.rt`
 //! and `two_files.rt` open the files of each run and print what it said. `asking.rt` has what is done with each of many files,
 //! and `keeping.rt` what is done with each line of a list of keys. It has no tests of its own except the stored run: those of
-//! runs over files by name are command_tests' `by_name.rt`.
+//! runs over files by name are program_tests' `by_name.rt`.
 //!
 //! A run says its line into memory that was reserved before (`Voice::room`), and `oas_explain` prints it on standard error,
 //! followed by the lines of its reason where `--explain` requests that, or standard error is a terminal. `advise` of
 //! oas_explain looks at the refused file once more from outside (looking.rt), and says what to try (advice.rt), depending on
 //! what was asked (oascanon's advising.rt). So no signature of a run depends on it. `oas_explain` recognizes the number in the
 //! line byte by byte (`hears`, specs/Hearing.antt): no place in a line goes on with the `d` of `refused`, so what comes before
-//! it, also a name that looks like a refusal, is forgotten there. `oas_progress` is between a file and its run, and ignores
-//! the line's faults.
+//! it, also a name that looks like a refusal, is forgotten there. The `progress` of oas_files is between a file and its run,
+//! and ignores the line's faults.
 //!
 //! That a refused file creates nothing needs no proof of its own either: the writer that a refusal leaves unchanged is an
 //! `Output` that isn't created (specs/Creating.antt of oas_files).
@@ -46,10 +46,9 @@ mod two_files;
 ghost use Rattle.oas_explain.specs.Session.{HoldsFor};
 
 use asking::Asking;
-use oas_explain::oas_files::{Existing, mark_output};
 use oas_explain::{
-    Asked, BINARY, Onward, STANDARD_OUTPUT, Session, all_reasons, ended, ended_by_text, misused,
-    of_all, of_listed, run_explain, words_of,
+    Asked, BINARY, Existing, Onward, STANDARD_OUTPUT, Session, all_reasons, ended, ended_by_text,
+    mark_output, misused, of_all, of_listed, run_explain, words_of,
 };
 use oas_request::{Request, parse};
 use plan::{Plan, plan_of};

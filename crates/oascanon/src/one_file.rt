@@ -2,13 +2,12 @@
 
 use crate::guards::keep_old;
 use crate::plan::OneFile;
-use oas_explain::oas_canon::{Device, Outlet, Sink, Source};
-use oas_explain::oas_command::{name_of, work_telling};
-use oas_explain::oas_files::Existing;
-use oas_explain::{Incoming, Outcome, Session};
+use oas_explain::{
+    Device, Existing, Incoming, Outcome, Outlet, Session, Sink, Source, name_of, work_telling,
+};
 
 impl<'a> OneFile<'a> {
-    ghost use Rattle.oas_explain.specs.oas_command.Work.{DoesWork};
+    ghost use Rattle.oas_explain.specs.Work.{DoesWork};
 
     /// Runs, with an output whose name is free where an old file should be kept. Returns the status; or that of a run that
     /// could not begin.

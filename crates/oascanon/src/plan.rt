@@ -4,8 +4,7 @@ ghost use Rattle.std.specs.Prelude.{◌≡◌};
 ghost use Rattle.oascanon.specs.Plan.{existing_of, form_of, unnamed, named, reading, writing, comparing, writes_file, is_binary, IsAskedOf, IsComparedBy, IsPlanOf};
 
 use crate::keeping::Kept;
-use oas_explain::oas_command::{Form, Label, Options, PairWork, Work};
-use oas_explain::oas_files::Existing;
+use oas_explain::{Existing, Form, Label, Options, PairWork, Work};
 use oas_request::{Asked, Inputs, Markers, Question, Task};
 
 /// What a command line comes to.

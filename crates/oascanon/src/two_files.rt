@@ -2,13 +2,13 @@
 
 use crate::guards::keep_inputs;
 use crate::plan::{Marking, TwoFiles};
-use oas_explain::oas_canon::{Device, Outlet, Sink, Source};
-use oas_explain::oas_command::{marking_telling, name_of, pair_work_telling};
-use oas_explain::oas_files::Existing;
-use oas_explain::{Incoming, Named, Pair, Session};
+use oas_explain::{
+    Device, Existing, Incoming, Named, Outlet, Pair, Session, Sink, Source, marking_telling,
+    name_of, pair_work_telling,
+};
 
 impl<'a> TwoFiles<'a> {
-    ghost use Rattle.oas_explain.specs.oas_command.Work.{DoesPairWork};
+    ghost use Rattle.oas_explain.specs.Work.{DoesPairWork};
 
     /// Runs, and returns the status; or that of a run that could not begin.
     pub fn run(self, session: &Session<'a>) -> Result<u8, u8> {

@@ -7,7 +7,7 @@ use Rattle.std.proofs.Math.Seq.{drop-cons, set-append_seam}
 use Rattle.std.proofs.lemmas.Bool.{ltb-true, ltb-false}
 use Rattle.oas_num.specs.SinkFault.{SinkFault}
 use Rattle.oas_num.specs.Writing.{Puts, Writes}
-use Rattle.oas_prepare.specs.oas_canon.oas_form.Putting.{Counts}
+use Rattle.oas_prepare.specs.Putting.{Counts}
 use Rattle.oascanon_c.specs.declared.answers.Answer.{Answer}
 use Rattle.oascanon_c.specs.declared.answers.Answer.TheVariants.{Done, TooSmall}
 use Rattle.oascanon_c.specs.declared.filling.Filler.{Filler}

@@ -4,20 +4,20 @@ use Rattle.std.proofs.lemmas.Bool.{le-ltb}
 use Rattle.std.proofs.lemmas.List.{take_all}
 use Rattle.oas_num.specs.declared.refusals.Why.TheVariants.{Memory}
 use Rattle.oas_num.specs.Script.{Script, Rest, Gave}
-use Rattle.oas_layout.specs.declared.limits.Limits.{Limits}
-use Rattle.oas_layout.specs.declared.profile.Profile.{Profile}
-use Rattle.oas_layout.specs.declared.profile.Profile.TheVariants.{Two}
-use Rattle.oas_layout.specs.Contents.{Contents, IsLayout, meaning_of}
-use Rattle.oas_prepare.specs.oas_canon.oas_form.Bytes.{canonical_bytes}
-use Rattle.oas_prepare.specs.oas_canon.oas_form.Canonical.{CanonicalForm}
-use Rattle.oas_prepare.proofs.oas_canon_proofs.oas_form_proofs.Written.{canonical_form}
-use Rattle.oas_prepare.proofs.oas_canon_proofs.Whole.{all_given, Cause, Bytes, End, Device, Limit, Writer, Room, cause_of, within_not}
-use Rattle.oas_prepare.specs.oas_narrow.declared.dropping.Dropping.{Dropping}
-use Rattle.oas_prepare.specs.oas_narrow.declared.dropping.Report.{Report}
-use Rattle.oas_prepare.specs.oas_narrow.declared.places.Rejection.{Rejection}
-use Rattle.oas_prepare.specs.oas_narrow.Preparable.{Preparable}
-use Rattle.oas_prepare.specs.oas_wide.declared.reasons.WideWhy.TheVariants as wide
-use Rattle.oas_prepare.specs.oas_wide.Reasons.{plain_of}
+use Rattle.oas_elements.specs.declared.limits.Limits.{Limits}
+use Rattle.oas_elements.specs.declared.profile.Profile.{Profile}
+use Rattle.oas_elements.specs.declared.profile.Profile.TheVariants.{Two}
+use Rattle.oas_elements.specs.Contents.{Contents, IsLayout, meaning_of}
+use Rattle.oas_prepare.specs.Bytes.{canonical_bytes}
+use Rattle.oas_prepare.specs.Canonical.{CanonicalForm}
+use Rattle.oas_prepare.proofs.Written.{canonical_form}
+use Rattle.oas_prepare.proofs.CanonWhole.{all_given, Cause, Bytes, End, Device, Limit, Writer, Room, cause_of, within_not}
+use Rattle.oas_prepare.specs.NarrowDropping.{Dropping}
+use Rattle.oas_prepare.specs.Report.{Report}
+use Rattle.oas_prepare.specs.Rejection.{Rejection}
+use Rattle.oas_prepare.specs.Preparable.{Preparable}
+use Rattle.oas_prepare.specs.WideWhy.TheVariants as wide
+use Rattle.oas_prepare.specs.StandardReasons.{plain_of}
 use Rattle.oas_prepare.specs.Finishing.{IsReadPrepared, ReadsPrepared}
 use Rattle.oas_prepare.specs.Reasons.{IsReasoned}
 use Rattle.oas_prepare.specs.Run.{IsPreparedAs, IsStopped, IsPlaced}

@@ -7,22 +7,22 @@ use Rattle.sha2.specs.Sha256.{sha256}
 use Rattle.oas_num.specs.declared.refusals.Why.TheVariants.{Memory}
 use Rattle.oas_num.specs.declared.refusals.Refusal.{Refusal}
 use Rattle.oas_num.specs.Script.{Script, Rest, Gave, NoneLeft, Consumed, IsAtEnd}
-use Rattle.oas_layout.specs.declared.limits.Limits.{Limits}
-use Rattle.oas_layout.specs.declared.profile.Profile.{Profile}
-use Rattle.oas_layout.specs.declared.profile.Profile.TheVariants.{Two}
-use Rattle.oas_layout.specs.Contents.{Contents, meaning_of}
-use Rattle.oas_layout.specs.Limits.{AreLimits}
-use Rattle.oas_layout.specs.Meaning.{Meaning, SameLayout}
-use Rattle.oas_layout.proofs.LawProofs.{symmetric, transitive}
-use Rattle.oas_prepare.specs.oas_canon.oas_file.Acceptance.{Accepted, Means}
-use Rattle.oas_prepare.specs.oas_canon.oas_file.Deciding.{IsReasoned}
-use Rattle.oas_prepare.specs.oas_canon.oas_file.Reading.{IsRead, IsRefused, IsPlaced, ReadsLayout}
-use Rattle.oas_prepare.specs.oas_canon.oas_form.Bytes.{canonical_bytes}
-use Rattle.oas_prepare.specs.oas_canon.oas_form.Canonical.{CanonicalForm, IsCanonicalOf}
-use Rattle.oas_prepare.proofs.oas_canon_proofs.oas_form_proofs.Held.{form_is_bytes}
-use Rattle.oas_prepare.proofs.oas_canon_proofs.oas_form_proofs.Written.{canonical_form}
-use Rattle.oas_prepare.specs.oas_canon.Run.{IsKeyed}
-use Rattle.oas_prepare.proofs.oas_canon_proofs.Whole.{all_given, Cause, Bytes, End, Device, Limit, Writer, Room, cause_of, front_not, within_not}
+use Rattle.oas_elements.specs.declared.limits.Limits.{Limits}
+use Rattle.oas_elements.specs.declared.profile.Profile.{Profile}
+use Rattle.oas_elements.specs.declared.profile.Profile.TheVariants.{Two}
+use Rattle.oas_elements.specs.Contents.{Contents, meaning_of}
+use Rattle.oas_elements.specs.Limits.{AreLimits}
+use Rattle.oas_elements.specs.Meaning.{Meaning, SameLayout}
+use Rattle.oas_elements.proofs.LawProofs.{symmetric, transitive}
+use Rattle.oas_prepare.specs.Acceptance.{Accepted, Means}
+use Rattle.oas_prepare.specs.FileDeciding.{IsReasoned}
+use Rattle.oas_prepare.specs.Reading.{IsRead, IsRefused, IsPlaced, ReadsLayout}
+use Rattle.oas_prepare.specs.Bytes.{canonical_bytes}
+use Rattle.oas_prepare.specs.Canonical.{CanonicalForm, IsCanonicalOf}
+use Rattle.oas_prepare.proofs.Held.{form_is_bytes}
+use Rattle.oas_prepare.proofs.Written.{canonical_form}
+use Rattle.oas_prepare.specs.CanonRun.{IsKeyed}
+use Rattle.oas_prepare.proofs.CanonWhole.{all_given, Cause, Bytes, End, Device, Limit, Writer, Room, cause_of, front_not, within_not}
 use Rattle.oascanon_c.specs.declared.answers.Answer.{Answer}
 use Rattle.oascanon_c.specs.declared.answers.Answer.TheVariants.{Done, No, TooSmall, NotLimits, Refused}
 use Rattle.oascanon_c.specs.declared.bounds.Bounds.{Bounds}

@@ -1,12 +1,12 @@
 -- What is put of facts and of differences.
 use Rattle.std.proofs.Common.{◌≡◌, ◌≢◌, ℕ, zero, suc, ◌<◌, List, [], ◌∷◌, ◌++◌, length, refl, ◌∙◌, ap, arith, None}
 use Rattle.std.proofs.Math.Seq.{take-nil}
-use Rattle.oas_layout.specs.declared.limits.Limits.{Limits}
-use Rattle.oas_layout.specs.declared.profile.Profile.{Profile}
-use Rattle.oas_layout.specs.Contents.{Contents, meaning_of}
-use Rattle.oas_layout.specs.Limits.{AreLimits}
+use Rattle.oas_elements.specs.declared.limits.Limits.{Limits}
+use Rattle.oas_elements.specs.declared.profile.Profile.{Profile}
+use Rattle.oas_elements.specs.Contents.{Contents, meaning_of}
+use Rattle.oas_elements.specs.Limits.{AreLimits}
 use Rattle.oas_difference.specs.Difference.{difference}
-use Rattle.oas_difference.specs.declared.format.TheConstants.{PLAIN}
+use Rattle.oas_difference.specs.FormatConstants.{PLAIN}
 use Rattle.oas_info.specs.declared.info.Info.{Info}
 use Rattle.oas_info.specs.Info.{IsInfo}
 use Rattle.oas_info.specs.Json.{info_json}

@@ -4,18 +4,18 @@ use Rattle.sha2.specs.Sha256.{sha256}
 use Rattle.oas_num.specs.declared.refusals.Refusal.{Refusal}
 use Rattle.oas_num.specs.declared.refusals.Why.TheVariants.{Memory}
 use Rattle.oas_num.specs.Script.{Script, slice_script}
-use Rattle.oas_layout.specs.declared.limits.Limits.{Limits}
-use Rattle.oas_layout.specs.declared.profile.Profile.TheVariants.{Two}
-use Rattle.oas_layout.specs.Limits.{IsLimits, AreLimits}
-use Rattle.oas_layout.specs.Contents.{Contents, IsLayout, meaning_of}
-use Rattle.oas_layout.specs.Meaning.{Meaning, SameLayout}
-use Rattle.oas_listing.specs.Listing.{listing}
-use Rattle.oas_prepare.specs.oas_canon.CellKeys.{cell_key_lines}
-use Rattle.oas_prepare.specs.oas_canon.oas_file.Acceptance.{Accepted, Means}
-use Rattle.oas_prepare.specs.oas_canon.oas_file.Deciding.{IsReasoned}
-use Rattle.oas_prepare.specs.oas_canon.oas_file.Reading.{IsRefused, IsPlaced}
-use Rattle.oas_prepare.specs.oas_canon.oas_form.Canonical.{CanonicalForm, IsCanonicalOf}
-use Rattle.oas_prepare.specs.oas_canon.declared.sameness.Which.TheVariants.{First, Second}
+use Rattle.oas_elements.specs.declared.limits.Limits.{Limits}
+use Rattle.oas_elements.specs.declared.profile.Profile.TheVariants.{Two}
+use Rattle.oas_elements.specs.Limits.{IsLimits, AreLimits}
+use Rattle.oas_elements.specs.Contents.{Contents, IsLayout, meaning_of}
+use Rattle.oas_elements.specs.Meaning.{Meaning, SameLayout}
+use Rattle.oas_prepare.specs.Listing.{listing}
+use Rattle.oas_prepare.specs.CellKeys.{cell_key_lines}
+use Rattle.oas_prepare.specs.Acceptance.{Accepted, Means}
+use Rattle.oas_prepare.specs.FileDeciding.{IsReasoned}
+use Rattle.oas_prepare.specs.Reading.{IsRefused, IsPlaced}
+use Rattle.oas_prepare.specs.Canonical.{CanonicalForm, IsCanonicalOf}
+use Rattle.oas_prepare.specs.Which.TheVariants.{First, Second}
 use Rattle.oascanon_c.specs.declared.answers.Answer.{Answer}
 use Rattle.oascanon_c.specs.declared.answers.Answer.TheVariants.{Done, No, TooSmall, NotLimits, Refused}
 use Rattle.oascanon_c.specs.declared.bounds.Bounds.{Bounds}

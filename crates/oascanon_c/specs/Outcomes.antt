@@ -1,7 +1,7 @@
 -- How C is told of an answer.
 use Rattle.std.specs.Prelude.{zero, suc}
 use Rattle.oas_num.specs.Refusals.{number_of}
-use Rattle.oas_prepare.specs.oas_canon.declared.sameness.Which.TheVariants.{First, Second}
+use Rattle.oas_prepare.specs.Which.TheVariants.{First, Second}
 use Rattle.oascanon_c.specs.declared.answers.Answer.{Answer}
 use Rattle.oascanon_c.specs.declared.answers.Answer.TheVariants.{Done, No, TooSmall, NotLimits, Refused}
 use Rattle.oascanon_c.specs.declared.answers.Outcome.{Outcome}

@@ -2,15 +2,15 @@
 use Rattle.std.specs.Prelude.{◌≡◌, ℕ, ◌≤◌, ◌/◌, ◌%◌, ◌==◌, nat_lt, List, length, Option, Some, None, if◌then◌else◌}
 use Rattle.oas_num.specs.declared.refusals.Why.TheVariants.{Memory}
 use Rattle.oas_num.specs.Script.{Script}
-use Rattle.oas_layout.specs.declared.limits.Limits.{Limits}
-use Rattle.oas_layout.specs.declared.profile.Profile.TheVariants.{Two}
-use Rattle.oas_layout.specs.Limits.{IsLimits}
-use Rattle.oas_layout.specs.Contents.{Contents}
-use Rattle.oas_prepare.specs.oas_narrow.declared.dropping.Dropping.{Dropping}
-use Rattle.oas_prepare.specs.oas_narrow.declared.dropping.Report.{Report}
-use Rattle.oas_prepare.specs.oas_narrow.declared.places.Rejection.{Rejection}
-use Rattle.oas_prepare.specs.oas_narrow.Preparable.{Preparable, IsValid}
-use Rattle.oas_prepare.specs.oas_wide.declared.reasons.WideWhy.TheVariants as wide
+use Rattle.oas_elements.specs.declared.limits.Limits.{Limits}
+use Rattle.oas_elements.specs.declared.profile.Profile.TheVariants.{Two}
+use Rattle.oas_elements.specs.Limits.{IsLimits}
+use Rattle.oas_elements.specs.Contents.{Contents}
+use Rattle.oas_prepare.specs.NarrowDropping.{Dropping}
+use Rattle.oas_prepare.specs.Report.{Report}
+use Rattle.oas_prepare.specs.Rejection.{Rejection}
+use Rattle.oas_prepare.specs.Preparable.{Preparable, IsValid}
+use Rattle.oas_prepare.specs.WideWhy.TheVariants as wide
 use Rattle.oas_prepare.specs.Finishing.{IsReadPrepared}
 use Rattle.oas_prepare.specs.Reasons.{IsReasoned}
 use Rattle.oas_prepare.specs.Run.{IsPreparedAs, IsStopped, IsPlaced}

@@ -2,16 +2,16 @@
 use Rattle.std.specs.Prelude.{◌≡◌, ◌≢◌, ℕ, List, [], ◌∷◌, ◌++◌, length, ◌⊎◌, None}
 use Rattle.oas_num.specs.declared.refusals.Refusal.{Refusal}
 use Rattle.oas_num.specs.declared.refusals.Why.TheVariants.{Memory}
-use Rattle.oas_layout.specs.declared.limits.Limits.{Limits}
-use Rattle.oas_layout.specs.declared.profile.Profile.TheVariants.{Two}
-use Rattle.oas_layout.specs.Contents.{Contents, meaning_of}
-use Rattle.oas_layout.specs.Limits.{IsLimits}
+use Rattle.oas_elements.specs.declared.limits.Limits.{Limits}
+use Rattle.oas_elements.specs.declared.profile.Profile.TheVariants.{Two}
+use Rattle.oas_elements.specs.Contents.{Contents, meaning_of}
+use Rattle.oas_elements.specs.Limits.{IsLimits}
 use Rattle.oas_difference.specs.Difference.{difference}
-use Rattle.oas_difference.specs.declared.format.TheConstants.{PLAIN}
+use Rattle.oas_difference.specs.FormatConstants.{PLAIN}
 use Rattle.oas_info.specs.declared.info.Info.{Info}
 use Rattle.oas_info.specs.Info.{IsInfo}
 use Rattle.oas_info.specs.Json.{info_json}
-use Rattle.oas_prepare.specs.oas_canon.declared.sameness.Which.TheVariants.{First, Second}
+use Rattle.oas_prepare.specs.Which.TheVariants.{First, Second}
 use Rattle.oascanon_c.specs.declared.answers.Answer.{Answer}
 use Rattle.oascanon_c.specs.declared.answers.Answer.TheVariants.{Done, No, TooSmall, NotLimits, Refused}
 use Rattle.oascanon_c.specs.declared.bounds.Bounds.{Bounds}

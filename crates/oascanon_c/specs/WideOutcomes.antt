@@ -1,9 +1,9 @@
 -- How C is told of an answer to preparing a file.
 use Rattle.std.specs.Prelude.{ℕ}
-use Rattle.oas_prepare.specs.oas_narrow.declared.dropping.Report.{Report}
-use Rattle.oas_prepare.specs.oas_narrow.declared.places.Place.{Place}
-use Rattle.oas_prepare.specs.oas_narrow.declared.places.Place.TheVariants.{File, Block}
-use Rattle.oas_prepare.specs.oas_wide.Reasons.{wide_number_of}
+use Rattle.oas_prepare.specs.Report.{Report}
+use Rattle.oas_prepare.specs.Place.{Place}
+use Rattle.oas_prepare.specs.Place.TheVariants.{File, Block}
+use Rattle.oas_prepare.specs.StandardReasons.{wide_number_of}
 use Rattle.oascanon_c.specs.declared.answers.Outcome.{Outcome}
 use Rattle.oascanon_c.specs.declared.wide_answers.Preparation.{Preparation}
 use Rattle.oascanon_c.specs.declared.wide_answers.WideAnswer.{WideAnswer}

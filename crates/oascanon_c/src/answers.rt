@@ -2,7 +2,7 @@
 ghost use Rattle.std.specs.Prelude.{◌≡◌};
 ghost use Rattle.oascanon_c.specs.Outcomes.{answer_by_lines, outcome_of};
 
-use oas_prepare::oas_canon::{Refusal, Which};
+use oas_prepare::{Refusal, Which};
 
 /// The status of an answer that is yes, or of an output that is whole.
 const DONE: u32 = 0;

@@ -1,8 +1,8 @@
 //! Limits, as C hands them in.
 ghost use Rattle.std.specs.Prelude.{◌↔◌, IsSome, IfSome};
-ghost use Rattle.oas_layout.specs.Limits.{IsLimits, AreLimits};
+ghost use Rattle.oas_elements.specs.Limits.{IsLimits, AreLimits};
 
-use oas_prepare::oas_canon::Limits;
+use oas_prepare::Limits;
 
 /// How many elements a layout may hold, what it may weigh, and how many bytes its file may have.
 #[repr(C)]

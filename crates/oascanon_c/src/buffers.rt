@@ -1,17 +1,16 @@
 //! The calls about the canonical file, over bytes and room.
 ghost use Rattle.std.specs.Prelude.{◌≡◌, IfOk, IfErr};
-ghost use Rattle.oas_layout.specs.Contents.{IsLayout, meaning_of};
-ghost use Rattle.oas_prepare.specs.oas_canon.oas_form.Bytes.{canonical_bytes};
+ghost use Rattle.oas_elements.specs.Contents.{IsLayout, meaning_of};
+ghost use Rattle.oas_prepare.specs.Bytes.{canonical_bytes};
 ghost use Rattle.oascanon_c.specs.Buffers.{answered, Canonicalizes, Compares, IsReadFrom, IsRefusedFor, Judges, Keys};
 ghost use Rattle.oascanon_c.specs.Rooms.{Puts};
 
 use crate::answers::Answer;
 use crate::bounds::Bounds;
 use crate::filling::Filler;
-use oas_prepare::oas_canon::oas_form::has_canonical_bytes;
-use oas_prepare::oas_canon::{
-    ByProfile, CompactLayout, Layout, Limits, PROFILE, Refusal, SliceSource, Which, put_canonical,
-    read_compact, read_layout,
+use oas_prepare::{
+    Layout, Limits, PROFILE, Refusal, SliceSource, Which, has_canonical_bytes, key as file_key,
+    put_canonical, read_layout,
 };
 use std::alloc::Global;
 
@@ -22,19 +21,6 @@ pub(crate) fn read(alloc: Global, bytes: &[u8], limits: Limits) -> Result<Layout
 {
     let mut source = SliceSource::new(bytes, limits.input());
     read_layout(alloc, &mut source, limits, PROFILE)
-}
-
-/// The same, held as runs of keys.
-pub(crate) fn read_runs(
-    alloc: Global,
-    bytes: &[u8],
-    limits: Limits,
-) -> Result<CompactLayout, Refusal>
-    ensures read { IfOk result (IsReadFrom limits bytes.now) }
-    ensures refused { IfErr result (IsRefusedFor limits bytes.now) }
-{
-    let mut source = SliceSource::new(bytes, limits.input());
-    read_compact::<_, ByProfile>(alloc, &mut source, limits)
 }
 
 /// What is said of a question's answer.
@@ -88,7 +74,7 @@ pub(crate) fn key(alloc: Global, bytes: &[u8], bounds: &Bounds, digest: &mut [u8
         return Answer::NotLimits;
     };
     let mut source = SliceSource::new(bytes, limits.input());
-    match oas_prepare::oas_canon::key(alloc, &mut source, limits) {
+    match file_key(alloc, &mut source, limits) {
         Ok(found) => {
             *digest = found;
             Answer::Done(32)

@@ -3,7 +3,7 @@ ghost use Rattle.std.specs.Prelude.{◌≡◌, ◌≤◌, ◌-◌, ◌^◌, []};
 ghost use Rattle.oascanon_c.specs.Rooms.{answer_of};
 
 use crate::answers::Answer;
-use oas_prepare::oas_canon::{Sink, SinkFault};
+use oas_prepare::{Sink, SinkFault};
 
 /// Puts the bytes that it is given into the room, one after another, drops those for which there is none, and counts all.
 /// At `u64::MAX` the count stays there.

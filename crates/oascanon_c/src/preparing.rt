@@ -5,9 +5,9 @@ ghost use Rattle.oascanon_c.specs.Preparing.{IsPreparedFrom, IsStoppedFor, Prepa
 use crate::bounds::Bounds;
 use crate::buffers::put_form;
 use crate::wide_answers::WideAnswer;
-use oas_prepare::oas_canon::{Layout, Limits, PROFILE, SliceSource};
-use oas_prepare::oas_narrow::{Dropping, Rejection, Report};
-use oas_prepare::read_prepared;
+use oas_prepare::{
+    Dropping, Layout, Limits, PROFILE, Rejection, Report, SliceSource, read_prepared,
+};
 use std::alloc::Global;
 
 /// The kinds of records that bits name: properties by 1, names of layers by 2, extensions by 4. None where another bit is set.

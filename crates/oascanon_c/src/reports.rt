@@ -2,27 +2,24 @@
 ghost use Rattle.std.specs.Prelude.{◌≡◌, length, IfOk, None};
 ghost use Rattle.oas_num.specs.declared.refusals.Why.TheVariants.{Memory as NoMemory};
 ghost use Rattle.oas_num.specs.Writing.{Writes};
-ghost use Rattle.oas_layout.specs.Contents.{meaning_of};
-ghost use Rattle.oas_listing.specs.Listing.{listing};
+ghost use Rattle.oas_elements.specs.Contents.{meaning_of};
+ghost use Rattle.oas_prepare.specs.Listing.{listing};
 ghost use Rattle.oas_difference.specs.Difference.{difference};
-ghost use Rattle.oas_difference.specs.declared.format.TheConstants.{PLAIN};
+ghost use Rattle.oas_difference.specs.FormatConstants.{PLAIN};
 ghost use Rattle.oas_info.specs.Info.{IsInfo};
 ghost use Rattle.oas_info.specs.Json.{info_json};
-ghost use Rattle.oas_prepare.specs.oas_canon.CellKeys.{cell_key_lines};
+ghost use Rattle.oas_prepare.specs.CellKeys.{cell_key_lines};
 ghost use Rattle.oascanon_c.specs.Buffers.{Lists, ListsKeys};
 ghost use Rattle.oascanon_c.specs.Reports.{Differs, Informs, line_of};
 ghost use Rattle.oascanon_c.specs.Rooms.{Puts};
 
 use crate::answers::Answer;
 use crate::bounds::Bounds;
-use crate::buffers::{read, read_runs};
+use crate::buffers::read;
 use crate::filling::Filler;
 use oas_difference::{Detail, put_difference};
 use oas_info::{Info, info_of, json_of};
-use oas_listing::put_listing;
-use oas_prepare::oas_canon::{
-    CompactLayout, Layout, Refusal, Sink, SinkFault, Which, Why, put_cell_keys,
-};
+use oas_prepare::{Layout, Refusal, Sink, SinkFault, Which, Why, put_cell_keys, put_listing};
 use std::alloc::{AllocError, Global};
 
 /// Puts the listing of a layout into the room, as far as it fits.
@@ -71,7 +68,7 @@ fn put_text(text: &[u8], room: &mut [u8]) -> Answer
 }
 
 /// The facts of a layout, and their text.
-fn facts(alloc: Global, layout: &CompactLayout) -> Result<(Info, Vec<u8>), AllocError>
+fn facts(alloc: Global, layout: &Layout) -> Result<(Info, Vec<u8>), AllocError>
     ensures facts { IfOk result (λ both. IsInfo (meaning_of layout.now) both.0) }
     ensures text { IfOk result (λ both. both.1.items ≡ info_json both.0) }
 {
@@ -124,7 +121,7 @@ pub(crate) fn info(alloc: Global, bytes: &[u8], bounds: &Bounds, room: &mut [u8]
     let Some(limits) = bounds.limits() else {
         return Answer::NotLimits;
     };
-    let layout = match read_runs(alloc, bytes, limits) {
+    let layout = match read(alloc, bytes, limits) {
         Ok(layout) => layout,
         Err(refusal) => return Answer::Refused(Which::First, refusal),
     };

@@ -3,7 +3,7 @@ ghost use Rattle.std.specs.Prelude.{◌≡◌};
 ghost use Rattle.oascanon_c.specs.WideOutcomes.{at_of, in_block_of, left_out_of, none_left_out, preparation_of, wide_outcome_of, within_of};
 
 use crate::answers::{Answer, NOT_LIMITS, Outcome};
-use oas_prepare::oas_narrow::{Place, Rejection, Report};
+use oas_prepare::{Place, Rejection, Report};
 
 /// The status of bits of which one names no kind of record.
 const UNKNOWN_DROP: u32 = 68;

@@ -12,11 +12,10 @@ mod requests;
 mod runs;
 mod usage;
 
-ghost use Rattle.oas_preparing.specs.oas_explain.Session.{HoldsFor};
+ghost use Rattle.oas_preparing.specs.Session.{HoldsFor};
 
-use oas_preparing::oas_explain::oas_files::mark_output;
-use oas_preparing::oas_explain::{
-    BINARY, Session, ended, ended_by_text, misused, of_all, of_listed, words_of,
+use oas_preparing::{
+    BINARY, Session, ended, ended_by_text, mark_output, misused, of_all, of_listed, words_of,
 };
 use requests::{Inputs, Request, Task, parse};
 use runs::{Asking, Comparing, Preparing};

@@ -3,8 +3,7 @@
 use crate::usage::{EXTENSIONS, FILES, LAYER_NAMES, PROPERTIES, oasprep};
 use clap::error::ErrorKind;
 use clap::{ArgMatches, Command, Error};
-use oas_preparing::oas_explain::oas_files::file_of_word;
-use oas_preparing::oas_narrow::Dropping;
+use oas_preparing::{Dropping, file_of_word};
 use std::alloc::{AllocError, Global};
 use std::convert::AsStr;
 

@@ -1,15 +1,11 @@
 //! Runs on one file and on two: each opens its files, runs, and prints what was said.
 
 use crate::requests::Question;
-use oas_preparing::oas_canon::Outlet;
-use oas_preparing::oas_command::{End, Label, name_of};
-use oas_preparing::oas_explain::oas_files::{Existing, Printed};
-use oas_preparing::oas_explain::{
-    Asked, CANONICAL, Incoming, Named, OfEach, Onward, Outcome, Outgoing, Pair, Said, Session,
-    label_of,
+use oas_preparing::{
+    Asked, CANONICAL, Dropping, End, Existing, Incoming, Label, Named, OfEach, Onward, Outcome,
+    Outgoing, Outlet, Pair, Printed, Said, Session, check_telling, key_telling, label_of, name_of,
+    run_prepare, same_telling,
 };
-use oas_preparing::oas_narrow::Dropping;
-use oas_preparing::{check_telling, key_telling, run_prepare, same_telling};
 
 /// As much as two lines of what was left out may have in addition to names: each five phrases with numbers of 64 bits.
 const LINES: usize = 512;

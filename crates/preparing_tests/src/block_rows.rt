@@ -1,8 +1,7 @@
 //! Blocks that stop a file. The streams that aren't stored bytes were made by zlib 1.2.13.
 
 use oas_num::Why;
-use oas_preparing::oas_narrow::Place;
-use oas_preparing::oas_wide::WideWhy;
+use oas_preparing::{Place, WideWhy};
 
 /// A block and what follows it, after the head of a file and a cell (37 bytes), and where and why that file, which continues
 /// with END, stops.

@@ -2,13 +2,12 @@
 
 use crate::devices::{Narrow, Torn};
 use crate::rows::{Answer, NAME, answer, dropping_of};
-use file_pieces::bytes_of;
 use oas_num::{INPUT_MAX, NotedWriter, ReaderSource, SliceSource};
-use oas_preparing::oas_canon::Limits;
-use oas_preparing::run_prepare;
+use oas_preparing::{Limits, run_prepare};
 use std::alloc::Global;
 use std::process::Abort;
 use std::test::Fail;
+use test_tools::bytes_of;
 
 /// A file of 304 bytes, from which a name of properties is left out.
 pub const FILE: &str = "HEAD 070150 CELL RECT TAIL";

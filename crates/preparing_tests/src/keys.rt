@@ -2,15 +2,12 @@
 
 use crate::devices::Narrow;
 use crate::rows::{Answer, NAME, ROWS, dropping_of, fields_of, line_of};
-use file_pieces::bytes_of;
 use oas_num::{INPUT_MAX, NotedWriter, Outlet, SliceSource};
-use oas_preparing::key_telling;
-use oas_preparing::oas_canon::Limits;
-use oas_preparing::oas_command::{End, Label};
-use oas_preparing::oas_narrow::Dropping;
+use oas_preparing::{Dropping, End, Label, Limits, key_telling};
 use std::alloc::Global;
 use std::process::Abort;
 use std::test::Fail;
+use test_tools::bytes_of;
 
 /// What each file of the rows is prepared to that isn't refused.
 const PREPARED: &str = "HEAD CELL RECT TAIL";

@@ -1,9 +1,7 @@
 //! Lines that no file gives yet.
 
 use oas_num::{NotedWriter, Outlet};
-use oas_preparing::oas_narrow::{Place, Rejection, Report};
-use oas_preparing::oas_wide::WideWhy;
-use oas_preparing::{put_rejection, put_report};
+use oas_preparing::{Place, Rejection, Report, WideWhy, put_rejection, put_report};
 use std::alloc::Global;
 use std::process::Abort;
 

@@ -1,19 +1,16 @@
 //! Each memory allocation fails in turn: the result is 34, with nothing written, until there is enough of it.
 //!
-//! The heap is filled up, and given back a small piece after each run. Where the heap can't be filled, as under `rt try`,
+//! The heap is filled up, and given back a small piece, or some, after each run. Where the heap can't be filled, as under `rt try`,
 //! nothing fails.
 
 use crate::devices::Narrow;
 use crate::rows::dropping_of;
-use file_pieces::bytes_of;
 use oas_num::{INPUT_MAX, NotedWriter, Outlet, SliceSource};
-use oas_preparing::oas_canon::Limits;
-use oas_preparing::oas_command::{End, Label};
-use oas_preparing::{check_telling, key_telling, prepare_telling};
-use scarce_memory::Hoard;
+use oas_preparing::{End, Label, Limits, check_telling, key_telling, prepare_telling};
 use std::alloc::Global;
 use std::process::Abort;
 use std::test::Fail;
+use test_tools::{Hoard, bytes_of};
 
 /// A writer that has its memory.
 fn roomy(alloc: Global) -> Result<Narrow, Fail> {
@@ -34,6 +31,24 @@ enum Asked {
     Prepare,
     Key,
     Check,
+}
+
+impl Asked {
+    /// How many pieces are given back after each failure. Bytes that are kept grow by doubling, and an allocator may keep freed
+    /// memory apart by its size: given back piece by piece, it would have nothing left but pieces of all these sizes.
+    fn pieces(self) -> u32 {
+        match self {
+            Asked::Prepare | Asked::Key => 1,
+            Asked::Check => 32,
+        }
+    }
+}
+
+/// Gives back this many pieces.
+fn give_back(hoard: &mut Hoard, pieces: u32) {
+    for _ in 0..pieces {
+        hoard.give_back();
+    }
 }
 
 /// The name of the file.
@@ -87,7 +102,7 @@ fn run(
     }
 }
 
-/// Runs until it succeeds, and gives back a piece of memory after each failure. How the last run ended, and how many failed.
+/// Runs until it succeeds, and gives back some memory after each failure. How the last run ended, and how many failed.
 fn insist(
     alloc: Global,
     asked: Asked,
@@ -102,7 +117,7 @@ fn insist(
         if end != "refused" {
             return (end, refused);
         }
-        hoard.give_back();
+        give_back(hoard, asked.pieces());
     }
     ("refused", 4000)
 }

@@ -1,13 +1,11 @@
 //! Files through `run_prepare`, over a slice.
 
-use file_pieces::bytes_of;
 use oas_num::{INPUT_MAX, NotedWriter, SliceSource, Source};
-use oas_preparing::oas_canon::Limits;
-use oas_preparing::oas_narrow::Dropping;
-use oas_preparing::run_prepare;
+use oas_preparing::{Dropping, Limits, run_prepare};
 use std::alloc::{AllocError, Global};
 use std::process::Abort;
 use std::test::Fail;
+use test_tools::bytes_of;
 
 /// The rows: a name, what is named to be left out, the file, its result, or `NUMBER@OFFSET` where it is refused, and the line
 /// about what was left out.

@@ -2,14 +2,12 @@
 
 use crate::devices::Narrow;
 use crate::rows::dropping_of;
-use file_pieces::bytes_of;
 use oas_num::{INPUT_MAX, NotedWriter, Outlet, SliceSource};
-use oas_preparing::oas_canon::Limits;
-use oas_preparing::oas_narrow::Dropping;
-use oas_preparing::same_telling;
+use oas_preparing::{Dropping, Limits, same_telling};
 use std::alloc::{AllocError, Global};
 use std::process::Abort;
 use std::test::Fail;
+use test_tools::bytes_of;
 
 /// The rows: a name, what is named to be left out, two files, the status, the output, and what is said of each.
 const ROWS: &str = "\

@@ -3,10 +3,10 @@
 
 use crate::devices::Torn;
 use oas_num::NotedWriter;
-use oas_preparing::oas_canon::{Limits, PROFILE, ReaderSource, SliceSource, Source, Why};
-use oas_preparing::oas_narrow::{Dropping, Place, Rejection};
-use oas_preparing::oas_prepare::prepare;
-use oas_preparing::oas_wide::WideWhy;
+use oas_preparing::{
+    Dropping, Limits, PROFILE, Place, ReaderSource, Rejection, SliceSource, Source, Why, WideWhy,
+    prepare,
+};
 use std::alloc::{AllocError, Global};
 use std::process::Abort;
 use std::test::Fail;

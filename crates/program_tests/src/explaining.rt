@@ -1,5 +1,7 @@
 //! The command `explain`.
 
+mod reasons;
+
 use oas_explain::{Recorded, all_reasons, run_explain};
 use oas_num::NotedWriter;
 use std::alloc::Global;

@@ -1,6 +1,9 @@
 //! Files by name: inputs that can't be opened or read, and outputs that are created at their first byte.
 
-use oas_request::oas_files::{Existing, Input, NewFile, Place, Replacement};
+mod names;
+mod progress;
+
+use oas_request::{Existing, Input, NewFile, Place, Replacement};
 use std::alloc::Alloc;
 use std::fs;
 use std::fs::Files;

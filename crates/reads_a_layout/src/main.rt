@@ -2,7 +2,9 @@
 //! of each kind it has.
 #![tactic(auto)]
 
-use oas_canon::{Element, Elements, Layout, Limits, PROFILE, ReaderSource, Refusal, read_layout};
+use oas_canon::{
+    Elements, Layout, Limits, PROFILE, ReaderSource, Refusal, ShownElement, read_layout, show,
+};
 use std::io;
 
 /// How many elements of each kind there are, equal ones each counted.
@@ -18,9 +20,9 @@ impl Counts {
     fn of(elements: Elements<'_>) -> Counts {
         let mut counts = Counts::default();
         for (element, times) in elements {
-            let count = match element {
-                Element::Placement { .. } => &mut counts.placements,
-                Element::Text { .. } => &mut counts.texts,
+            let count = match show(&element) {
+                ShownElement::Placement { .. } => &mut counts.placements,
+                ShownElement::Text { .. } => &mut counts.texts,
                 _ => &mut counts.shapes,
             };
             *count = count.saturating_add(times);
@@ -40,11 +42,11 @@ fn read(rt: &HostRuntime) -> Result<Layout, Refusal> {
 fn print(rt: &HostRuntime, layout: &Layout) -> io::Result<()> {
     let unit = layout.unit();
     println!(rt; "{}/{} grid steps in a micron", unit.num(), unit.den())?;
-    for cell in layout.cells() {
-        let counts = Counts::of(cell.elements());
+    for (name, elements) in layout.cells() {
+        let counts = Counts::of(elements);
         println!(rt;
             "{}: {} placements, {} texts, {} shapes",
-            cell.name().as_bytes().escape_ascii(),
+            name.as_bytes().escape_ascii(),
             counts.placements,
             counts.texts,
             counts.shapes

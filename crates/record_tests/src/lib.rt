@@ -1,23 +1,17 @@
-//! What no contract of oas_record or oas_peek says, tested by their public calls alone: a read succeeds where memory is
-//! there; the results for bytes whose meaning is known from outside; and an element without a repetition is found where there
-//! is one. The tests are in a crate of their own so that both are proved without them.
+//! What no contract of the crates that read records and draw by them says, tested by their public calls alone: a read
+//! succeeds where memory is there; and the results for bytes whose meaning is known from outside. The tests are in a crate
+//! of their own so that those crates are proved without them.
+//!
+//! | file | what it tests |
+//! |---|---|
+//! | records | oas_record: records that are read, and how many bytes each takes |
+//! | peeking | oas_peek: an element without a repetition is found where there is one |
+//! | drawing | oas_drawing: copies are made where memory is there, and elements that are known from outside |
 #![tactic(auto)]
 
 #[cfg(test)]
-mod fields;
+mod drawing;
 #[cfg(test)]
-mod figures;
-#[cfg(test)]
-mod memory;
-#[cfg(test)]
-mod named;
-#[cfg(test)]
-mod paths;
-#[cfg(test)]
-mod polygons;
+mod peeking;
 #[cfg(test)]
 mod records;
-#[cfg(test)]
-mod rectangles;
-#[cfg(test)]
-mod shown;

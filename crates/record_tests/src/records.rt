@@ -1,11 +1,14 @@
 //! Files that are read up to the first refusal or END, and how many bytes a record takes.
 
-use file_pieces::bytes_of;
+mod fields;
+mod memory;
+
 use oas_num::{INPUT_MAX, SliceSource, Source};
 use oas_record::{Record, read_head};
 use std::alloc::Global;
 use std::process::Abort;
 use std::test::Fail;
+use test_tools::bytes_of;
 
 /// A file in the style of a usual writer, with its names at the end.
 const COMPACT: &str =

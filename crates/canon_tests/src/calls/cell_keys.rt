@@ -68,7 +68,13 @@ fn only_keys(layout: &Layout) -> Option<[[u8; 32]; 2]> {
     if layout.cell_count() != 1 {
         return None;
     }
-    Some([cell_key(layout, 0), layout_key(layout)])
+    match layout.cells().next() {
+        Some((name, elements)) => Some([
+            cell_key(layout.unit(), name.as_bytes(), elements),
+            layout_key(layout),
+        ]),
+        None => None,
+    }
 }
 
 /// The same for the file with only the head.

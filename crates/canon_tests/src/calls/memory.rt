@@ -5,8 +5,8 @@
 
 use super::{AGAIN, file_of};
 use oas_canon::{Limits, Refusal, SliceSource, Why, is_canonical, key, same_files};
-use scarce_memory::Hoard;
 use std::alloc::Global;
+use test_tools::Hoard;
 
 /// A call under test.
 #[derive(Clone, Copy, Debug)]

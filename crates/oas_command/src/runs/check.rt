@@ -8,9 +8,9 @@ ghost use Rattle.oas_command.specs.Lines.{check_text, check_line, named_check_li
 ghost use Rattle.oas_command.specs.Runs.{verdict_status, Delivers, Ends};
 
 use super::ends::{conclude, refuse, status_of_verdict};
-use crate::lines::{Label, Pieces, write_line, write_pieces};
+use crate::lines::{Label, Pieces, write_line};
 use oas_canon::{Limits, is_canonical};
-use oas_num::{Device, Refusal, Sink, Source};
+use oas_num::{Device, Refusal, Sink, Source, write_content};
 use std::alloc::Global;
 
 /// Writes whether all that `from` gives within these limits is canonical, as a line to `out`, `canonical` or `not canonical`,
@@ -79,7 +79,7 @@ pub fn write_named_check<W: Device>(
         fourth: b"",
         end: label.end.byte(),
     };
-    write_pieces(out, pieces)
+    write_content(&pieces, out)
 }
 
 /// The text of a result.

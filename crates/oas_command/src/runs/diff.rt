@@ -2,14 +2,14 @@
 
 ghost use Rattle.std.specs.Prelude.{◌≡◌, Result, IfOk};
 ghost use Rattle.oas_num.specs.declared.refusals.Refusal.{Refusal as Refused};
-ghost use Rattle.oas_layout.specs.Contents.{Contents};
+ghost use Rattle.oas_elements.specs.Contents.{Contents};
 ghost use Rattle.oas_canon.specs.declared.sameness.Which.{Which as WhichFile};
 ghost use Rattle.oas_command.specs.Diff.{ReadsBoth, diff_text, diff_status, length_status};
 ghost use Rattle.oas_command.specs.Runs.{Delivers, found_in, blamed, Ends};
 
 use super::ends::{DONE, NO, conclude, refuse};
 use oas_canon::{Layout, Limits, PROFILE, Which, read_layout};
-use oas_markers::oas_difference::{Options, write_difference};
+use oas_markers::{Options, write_difference};
 use oas_num::{Device, Refusal, Sink, Source};
 use std::alloc::Global;
 

@@ -3,8 +3,8 @@
 ghost use Rattle.std.specs.Prelude.{◌≡◌, Result, IfOk};
 ghost use Rattle.oas_num.specs.declared.refusals.Refusal.{Refusal as Refused};
 ghost use Rattle.oas_num.specs.declared.refusals.Why.TheVariants.{Memory as NoMemory};
-ghost use Rattle.oas_layout.specs.Contents.{Contents, meaning_of};
-ghost use Rattle.oas_canon.specs.oas_file.Reading.{ReadsLayout};
+ghost use Rattle.oas_elements.specs.Contents.{Contents, meaning_of};
+ghost use Rattle.oas_canon.specs.Reading.{ReadsLayout};
 ghost use Rattle.oas_info.specs.declared.info.Info.{Info as Told};
 ghost use Rattle.oas_info.specs.Info.{IsInfo};
 ghost use Rattle.oas_info.specs.Form.{form_text};
@@ -13,7 +13,7 @@ ghost use Rattle.oas_command.specs.Runs.{status_of, Delivers, Ends};
 
 use super::ends::{DONE, conclude, refuse};
 use crate::lines::write_line;
-use oas_canon::{ByProfile, CompactLayout, Limits, PROFILE, read_compact};
+use oas_canon::{Layout, Limits, PROFILE, read_layout};
 use oas_info::{Form, Info, info_of, text_in};
 use oas_num::{Device, Refusal, Sink, Source, Why};
 use std::alloc::{AllocError, Global};
@@ -37,7 +37,7 @@ pub(crate) fn info_telling<S: Source, W: Device, K: Sink>(
         × Delivers W.calls (info_lines form) out.old found answer out.new
         × Ends K.given K.failures name.now told.old answer told.new }
 {
-    match read_compact::<S, ByProfile>(alloc, from, limits) {
+    match read_layout(alloc, from, limits, PROFILE) {
         Ok(layout) => match facts_and_text(alloc, &layout, form) {
             Ok((_, text)) => {
                 let written = write_line(out, text.as_slice());
@@ -61,11 +61,7 @@ fn no_memory(at: u64) -> Refusal
 }
 
 /// The facts of a layout, and their text in this format.
-fn facts_and_text(
-    alloc: Global,
-    layout: &CompactLayout,
-    form: Form,
-) -> Result<(Info, Vec<u8>), AllocError>
+fn facts_and_text(alloc: Global, layout: &Layout, form: Form) -> Result<(Info, Vec<u8>), AllocError>
     ensures facts { IfOk result (λ both. IsInfo (meaning_of layout.now) both.0) }
     ensures text { IfOk result (λ both. both.1.items ≡ form_text form both.0) }
 {

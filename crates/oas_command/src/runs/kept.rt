@@ -11,9 +11,9 @@ ghost use Rattle.oas_command.specs.Runs.{verdict_status, Delivers, Ends};
 
 use super::ends::{conclude, refuse, status_of_verdict};
 use super::key::hex_text;
-use crate::lines::{Label, Pieces, write_pieces};
+use crate::lines::{Label, Pieces};
 use oas_canon::{Limits, key};
-use oas_num::{Device, Refusal, Sink, Source};
+use oas_num::{Device, Refusal, Sink, Source, write_content};
 use std::alloc::Global;
 
 /// Writes whether the key of all that `from` gives within these limits is the saved one (lower-case hex digits), as a line to
@@ -75,7 +75,7 @@ fn write_kept<W: Device>(
         fourth: b"",
         end: label.end.byte(),
     };
-    write_pieces(out, pieces)
+    write_content(&pieces, out)
 }
 
 /// The text of a result.

@@ -9,10 +9,10 @@ ghost use Rattle.oas_command.specs.Lines.{key_line, escape_mark, named_key_line}
 ghost use Rattle.oas_command.specs.Runs.{status_of, Delivers, Ends};
 
 use super::ends::{DONE, conclude, refuse};
-use crate::lines::{Label, Pieces, write_line, write_pieces};
+use crate::lines::{Label, Pieces, write_line};
 use hex::encode_to_slice;
 use oas_canon::{Limits, key};
-use oas_num::{Device, Refusal, Sink, Source};
+use oas_num::{Device, Refusal, Sink, Source, write_content};
 use std::alloc::Global;
 
 /// Writes the key of all that `from` gives within these limits, as a line of 64 lower-case hex digits to `out`, and returns
@@ -83,7 +83,7 @@ pub fn write_named_key<W: Device>(
         fourth: label.name.as_bytes(),
         end: label.end.byte(),
     };
-    write_pieces(out, pieces)
+    write_content(&pieces, out)
 }
 
 /// What comes before a key.

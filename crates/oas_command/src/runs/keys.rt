@@ -2,15 +2,14 @@
 
 ghost use Rattle.std.specs.Prelude.{◌≡◌, Result};
 ghost use Rattle.oas_num.specs.declared.refusals.Refusal.{Refusal as Refused};
-ghost use Rattle.oas_layout.specs.Contents.{Contents, meaning_of};
-ghost use Rattle.oas_canon.specs.oas_file.Reading.{ReadsLayout};
+ghost use Rattle.oas_elements.specs.Contents.{Contents, meaning_of};
+ghost use Rattle.oas_canon.specs.Reading.{ReadsLayout};
 ghost use Rattle.oas_canon.specs.CellKeys.{cell_key_lines};
 ghost use Rattle.oas_command.specs.Runs.{status_of, Delivers, Ends};
 
 use super::ends::{DONE, conclude, refuse};
-use oas_canon::{ByProfile, Limits, PROFILE, write_compact_cell_keys};
+use oas_canon::{Limits, PROFILE, read_layout, write_cell_keys};
 use oas_num::{Device, Sink, Source};
-use oas_run_listing::oas_runs::read_compact;
 use std::alloc::Global;
 
 /// Writes the key of each cell of the layout of all that `from` gives within these limits to `out`, a line `HEX  CELL` each.
@@ -29,9 +28,9 @@ pub(crate) fn keys_telling<S: Source, W: Device, K: Sink>(
         × Delivers W.calls (λ l. cell_key_lines (meaning_of l)) out.old found answer out.new
         × Ends K.given K.failures name.now told.old answer told.new }
 {
-    match read_compact::<S, ByProfile>(alloc, from, limits) {
+    match read_layout(alloc, from, limits, PROFILE) {
         Ok(layout) => {
-            let written = write_compact_cell_keys(&layout, out);
+            let written = write_cell_keys(&layout, out);
             conclude(name, written, DONE, told)
         }
         Err(refusal) => refuse(name, refusal, told),

@@ -2,7 +2,7 @@
 
 ghost use Rattle.std.specs.Prelude.{◌≡◌, Result};
 ghost use Rattle.oas_num.specs.declared.refusals.Refusal.{Refusal as Refused};
-ghost use Rattle.oas_layout.specs.Contents.{Contents};
+ghost use Rattle.oas_elements.specs.Contents.{Contents};
 ghost use Rattle.oas_canon.specs.declared.sameness.Which.{Which as WhichFile};
 ghost use Rattle.oas_command.specs.Diff.{ReadsBoth, diff_text, diff_status};
 ghost use Rattle.oas_command.specs.Marking.{Marks, blamed_marking};
@@ -11,8 +11,7 @@ ghost use Rattle.oas_command.specs.Runs.{Delivers, found_in, Ends};
 use super::diff::{read_both, status_of_length};
 use super::ends::{conclude, refuse};
 use oas_canon::{Limits, Which};
-use oas_markers::oas_difference::{Options, write_difference};
-use oas_markers::write_markers;
+use oas_markers::{Options, write_difference, write_markers};
 use oas_num::{Device, Sink, Source};
 use std::alloc::Global;
 

@@ -2,16 +2,14 @@
 
 ghost use Rattle.std.specs.Prelude.{◌≡◌, Result};
 ghost use Rattle.oas_num.specs.declared.refusals.Refusal.{Refusal as Refused};
-ghost use Rattle.oas_layout.specs.Contents.{Contents, meaning_of};
-ghost use Rattle.oas_canon.specs.oas_file.Reading.{ReadsLayout};
-ghost use Rattle.oas_listing.specs.Listing.{listing};
+ghost use Rattle.oas_elements.specs.Contents.{Contents, meaning_of};
+ghost use Rattle.oas_canon.specs.Reading.{ReadsLayout};
+ghost use Rattle.oas_canon.specs.Listing.{listing};
 ghost use Rattle.oas_command.specs.Runs.{status_of, Delivers, Ends};
 
 use super::ends::{DONE, conclude, refuse};
-use oas_canon::{ByProfile, Limits, PROFILE};
+use oas_canon::{Limits, PROFILE, read_layout, write_listing};
 use oas_num::{Device, Sink, Source};
-use oas_run_listing::oas_runs::read_compact;
-use oas_run_listing::write_compact_listing;
 use std::alloc::Global;
 
 /// Writes the listing of the layout of all that `from` gives within these limits to `out`. Returns the status of the command:
@@ -30,9 +28,9 @@ pub(crate) fn show_telling<S: Source, W: Device, K: Sink>(
         × Delivers W.calls (λ l. listing (meaning_of l)) out.old found answer out.new
         × Ends K.given K.failures name.now told.old answer told.new }
 {
-    match read_compact::<S, ByProfile>(alloc, from, limits) {
+    match read_layout(alloc, from, limits, PROFILE) {
         Ok(layout) => {
-            let written = write_compact_listing(&layout, out);
+            let written = write_listing(&layout, out);
             conclude(name, written, DONE, told)
         }
         Err(refusal) => refuse(name, refusal, told),

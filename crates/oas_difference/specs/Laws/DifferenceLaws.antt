@@ -1,9 +1,9 @@
 -- The law of differences, as a statement.
 use Rattle.std.specs.Prelude.{◌≡◌, ◌↔◌, [], None}
-use Rattle.oas_layout.specs.declared.profile.Profile.{Profile}
-use Rattle.oas_layout.specs.Meaning.{Meaning, SameLayout}
+use Rattle.oas_elements.specs.declared.profile.Profile.{Profile}
+use Rattle.oas_elements.specs.Meaning.{Meaning, SameLayout}
 use Rattle.oas_difference.specs.Difference.{difference}
-use Rattle.oas_difference.specs.declared.format.Format.{Format}
+use Rattle.oas_diff_options.specs.declared.format.Format.{Format}
 
 -- in each format the difference is empty exactly if the layouts are the same
 abbrev pub EmptyIfSame : Format → Profile → Type 0

@@ -1,7 +1,6 @@
 -- What follows for a sink that passes on the first lines.
 use Rattle.std.specs.Prelude.{◌≡◌, ℕ, zero, suc, ◌||◌, Bool, true, false, List, []}
 use Rattle.std.proofs.Common.{inl, refl, sym, ap, ◌∙◌, subst}
-use Rattle.oas_num.specs.Outlet.{Outlet}
 use Rattle.oas_num.specs.Writing.{Puts}
 use Rattle.oas_num.proofs.WritingLemmas.{Puts-none}
 use Rattle.oas_difference.specs.declared.limiting.Limited.{Limited}
@@ -25,9 +24,10 @@ or_false true = refl
 or_false false = refl
 
 -- if nothing was put, nothing was given
-pub Passes-none : {W : Type 0} (given : Outlet W → List ℕ → Outlet W → Type 0) (failures : Outlet W → ℕ) (s : Limited W) → Passes given failures s [] s
+pub Passes-none : {K : Type 0} (given : K → List ℕ → K → Type 0) (failures : K → ℕ) (s : Limited K) → Passes given failures s [] s
 Passes-none given failures s = record {
-  puts = subst (λ (bs : List ℕ). Puts given failures s.sink bs s.sink) (sym (none_first s.left)) (Puts-none given failures s.sink);
+  same_sink = refl;
+  puts = subst (λ (bs : List ℕ). Puts given failures s.sink.now bs s.sink.now) (sym (none_first s.left)) (Puts-none given failures s.sink.now);
   left = λ e. sym (none_left s.left);
   cut = λ e. sym (ap (λ (b : Bool). s.is_cut || b) (none_longer s.left) ∙ or_false s.is_cut);
   fault = λ e. inl e;

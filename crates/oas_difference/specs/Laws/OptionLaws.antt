@@ -1,12 +1,12 @@
 -- The laws of what is written of differences, as statements.
 use Rattle.std.specs.Prelude.{◌≡◌, ◌↔◌, ℕ, List, [], Option, None, Some, unwrap_or}
 use Rattle.std.specs.Borrow.{Bor}
-use Rattle.oas_layout.specs.declared.profile.Profile.{Profile}
-use Rattle.oas_layout.specs.declared.element.Element.{Element}
-use Rattle.oas_layout.specs.Meaning.{Meaning, SameLayout, elements_of, count_of}
-use Rattle.oas_difference.specs.declared.choice.ChosenLayer.{ChosenLayer}
-use Rattle.oas_difference.specs.declared.options.Options.{Options}
-use Rattle.oas_difference.specs.Choice.{chosen}
+use Rattle.oas_elements.specs.declared.profile.Profile.{Profile}
+use Rattle.oas_elements.specs.declared.element.Element.{Element}
+use Rattle.oas_elements.specs.Meaning.{Meaning, SameLayout, elements_of, count_of}
+use Rattle.oas_diff_options.specs.declared.choice.ChosenLayer.{ChosenLayer}
+use Rattle.oas_diff_options.specs.declared.options.Options.{Options}
+use Rattle.oas_diff_options.specs.Choice.{chosen}
 use Rattle.oas_difference.specs.Options.{difference_by}
 
 -- equal units, and under each name the same count of each element, where a cell that is not there has none

@@ -5,10 +5,10 @@ use Rattle.std.specs.declared.cmp.Ordering.{Ordering}
 use Rattle.std.specs.Cmp.{IsTotalOrder}
 use Rattle.std.proofs.Common.{ap, subst}
 use Rattle.std.proofs.lemmas.Map.Lookups.{CmpEqualImpliesEq, exact_unsigned, exact_signed, exact_pairs}
-use Rattle.oas_layout.specs.declared.element.Turns.{Turns}
-use Rattle.oas_layout.specs.declared.element.Turns.TheVariants.{T0, T1, T2, T3}
-use Rattle.oas_layout.specs.Element.{◌then◌}
-use Rattle.oas_layout.specs.Laws.ElementLaws.{order_is_stated, exact_elements, same_turns, turns_cmp}
+use Rattle.oas_elements.specs.declared.element.Turns.{Turns}
+use Rattle.oas_elements.specs.declared.element.Turns.TheVariants.{T0, T1, T2, T3}
+use Rattle.oas_elements.specs.Element.{◌then◌}
+use Rattle.oas_elements.specs.Laws.ElementLaws.{order_is_stated, exact_elements, same_turns, turns_cmp}
 use Rattle.oas_drawing.specs.declared.drawn.Drawn.{Drawn}
 use Rattle.oas_drawing.specs.declared.drawn.Drawn.TheVariants.{Named, PlacementBy, TextBy}
 use Rattle.oas_drawing.specs.contracts.drawn.DrawnOrd.TheImpl as order

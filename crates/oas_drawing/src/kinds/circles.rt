@@ -13,7 +13,7 @@ ghost use Rattle.oas_drawing.specs.Reasons.{fault_of};
 use crate::drawn::Drawn;
 use crate::modal::drawing::point_by;
 use crate::modal::{ModalVariables, set};
-use oas_layout::Element;
+use oas_elements::Element;
 use oas_num::Why;
 use oas_record::Circle;
 use oas_ring::Point;

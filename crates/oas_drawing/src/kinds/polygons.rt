@@ -14,7 +14,7 @@ ghost use Rattle.oas_drawing.specs.Reasons.{fault_of, MayRunOut};
 use crate::drawn::Drawn;
 use crate::modal::drawing::{points_by, points_weight};
 use crate::modal::{ModalVariables, take_given};
-use oas_layout::Element;
+use oas_elements::Element;
 use oas_num::Why;
 use oas_record::Polygon;
 use std::alloc::Global;

@@ -15,7 +15,7 @@ ghost use Rattle.oas_drawing.specs.Reasons.{fault_of, kind_reason, reason_if};
 use crate::drawn::Drawn;
 use crate::modal::drawing::{coordinate, point_by};
 use crate::modal::{ModalVariables, set};
-use oas_layout::{Element, Limits};
+use oas_elements::{Element, Limits};
 use oas_num::Why;
 use oas_record::Rectangle;
 use oas_ring::Point;

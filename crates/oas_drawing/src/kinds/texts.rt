@@ -14,7 +14,7 @@ ghost use Rattle.oas_drawing.specs.Reasons.{fault_of, MayRunOut};
 use crate::drawn::Drawn;
 use crate::modal::drawing::point_by;
 use crate::modal::{ModalVariables, set, take_given, take_repetition};
-use oas_layout::Element;
+use oas_elements::Element;
 use oas_num::Why;
 use oas_record::{Text, TextRef};
 use oas_ring::Point;

@@ -10,7 +10,7 @@ use super::drawing::coordinate;
 use crate::kinds::Kind;
 use crate::positions::Position;
 use crate::turning::{is_askew, is_magnified};
-use oas_layout::Limits;
+use oas_elements::Limits;
 use oas_num::Why;
 
 /// Whether a position is within the grid.

@@ -5,7 +5,7 @@ ghost use Rattle.oas_num.specs.Deltas.{step};
 ghost use Rattle.std.specs.List.{list_all};
 ghost use Rattle.oas_ring.specs.declared.point.Point.{Point as OnePoint};
 ghost use Rattle.oas_shape.specs.Polylines.{vertices_of};
-ghost use Rattle.oas_layout.specs.Grid.{is_coordinate, is_grid_point};
+ghost use Rattle.oas_elements.specs.Grid.{is_coordinate, is_grid_point};
 ghost use Rattle.oas_drawing.specs.Drawing.{point_from};
 
 use crate::positions::Position;

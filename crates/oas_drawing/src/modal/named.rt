@@ -15,7 +15,7 @@ use super::{ModalVariables, set};
 use crate::once::DrawnOnce;
 use crate::positions::Position;
 use crate::turning::turned;
-use oas_layout::Limits;
+use oas_elements::Limits;
 use oas_num::{Label, Name, Why};
 use oas_peek::{Given, NamedOnce};
 use oas_record::{CellRef, TextRef, Turn};

@@ -12,7 +12,7 @@ use Rattle.oas_record.specs.Heads.{head_in}
 use Rattle.oas_record.specs.Laws.HeadLaws.{PrefixFree-head, OneSpelling-head, IsWithin-head}
 use Rattle.oas_record.specs.Records.{records_in}
 use Rattle.oas_record.specs.Laws.RecordLaws.{PrefixFree-records, OneSpelling-records, IsWithin-records}
-use Rattle.oas_modal.specs.Stands.{records_mean}
+use Rattle.oas_reader.specs.Stands.{records_mean}
 use Rattle.oas_file.specs.Files.{Parts, file_in, FileIn, FileOf, OneReading}
 use Rattle.oas_file.specs.Acceptance.{OneMeaning}
 

@@ -9,9 +9,9 @@ use Rattle.std.proofs.lemmas.Int.{ints}
 use Rattle.oas_ring.specs.declared.point.Point.{Point}
 use Rattle.oas_ring.specs.Points.{point_cmp, list_cmp}
 use Rattle.oas_ring.specs.Laws.PointsLaws.{exact_points}
-use Rattle.oas_layout.specs.declared.element.Turns.{Turns}
-use Rattle.oas_layout.specs.Element.{turn_count}
-use Rattle.oas_layout.specs.Grid.{is_coordinate, is_grid_point}
+use Rattle.oas_elements.specs.declared.element.Turns.{Turns}
+use Rattle.oas_elements.specs.Element.{turn_count}
+use Rattle.oas_elements.specs.Grid.{is_coordinate, is_grid_point}
 use Rattle.oas_keys.specs.Numbers.{IsStep, signed_key}
 use Rattle.oas_keys.specs.Keys.{text_key, step_key, points_key, turned_key, flip_count}
 use Rattle.oas_keys.specs.Laws.NumberLaws.{Decided, signed_order, then_assoc, by_parts, added, signed_begins}

@@ -12,13 +12,13 @@ use Rattle.std.proofs.lemmas.Map.Lookups.{exact_bytes}
 use Rattle.oas_num.specs.Texts.{IsOf, IsNameByte, IsLabelByte}
 use Rattle.oas_ring.specs.declared.point.Point.{Point}
 use Rattle.oas_ring.specs.Points.{origin, list_cmp}
-use Rattle.oas_layout.specs.declared.element.Turns.{Turns}
-use Rattle.oas_layout.specs.declared.element.Element.{Element}
-use Rattle.oas_layout.specs.declared.element.Element.TheVariants.{Placement, Text, Rectangle, Polygon, Path, Circle}
-use Rattle.oas_layout.specs.Element.{element_cmp, turn_count}
-use Rattle.oas_layout.specs.Grid.{is_coordinate, is_grid_point, reaches}
-use Rattle.oas_layout.specs.Sound.{IsSound}
-use Rattle.oas_layout.specs.Laws.ElementLaws.{exact_elements}
+use Rattle.oas_elements.specs.declared.element.Turns.{Turns}
+use Rattle.oas_elements.specs.declared.element.Element.{Element}
+use Rattle.oas_elements.specs.declared.element.Element.TheVariants.{Placement, Text, Rectangle, Polygon, Path, Circle}
+use Rattle.oas_elements.specs.Element.{element_cmp, turn_count}
+use Rattle.oas_elements.specs.Grid.{is_coordinate, is_grid_point, reaches}
+use Rattle.oas_elements.specs.Sound.{IsSound}
+use Rattle.oas_elements.specs.Laws.ElementLaws.{exact_elements}
 use Rattle.oas_keys.specs.Numbers.{signed_key, unsigned_key}
 use Rattle.oas_keys.specs.Keys.{key_of, text_key, points_key, turned_key}
 use Rattle.oas_keys.specs.Laws.NumberLaws.{signed_order, unsigned_order}

@@ -1,7 +1,7 @@
 -- The law of listings, as a statement.
 use Rattle.std.specs.Prelude.{◌≡◌}
-use Rattle.oas_layout.specs.Meaning.{SameLayout}
-use Rattle.oas_layout.specs.Contents.{Contents, IsLayout, meaning_of}
+use Rattle.oas_elements.specs.Meaning.{SameLayout}
+use Rattle.oas_elements.specs.Contents.{Contents, IsLayout, meaning_of}
 use Rattle.oas_listing.specs.Listing.{listing}
 
 -- layouts that are the same have one listing

@@ -1,8 +1,7 @@
 //! Command lines with options: what they request.
 
 use super::words::{asks, plain};
-use oas_request::oas_difference::{ChosenLayer, Detail, Format, Measure, PLAIN, Syntax};
-use oas_request::{Asked, Markers, Task};
+use oas_request::{Asked, ChosenLayer, Detail, Format, Markers, Measure, PLAIN, Syntax, Task};
 use std::alloc::{AllocError, Global};
 use std::test::Fail;
 

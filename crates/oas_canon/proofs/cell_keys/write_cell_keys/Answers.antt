@@ -1,15 +1,8 @@
-use Rattle.std.proofs.Common.{◌^◌, ◌<◌, length, arith, rules}
-use Rattle.oas_num.specs.Laws.WrittenLaws.{written, cut_off}
-use Rattle.oas_layout.specs.Contents.{meaning_of}
-use Rattle.oas_canon.specs.CellKeys.{cell_key_lines}
+use Rattle.std.proofs.Common.{rules}
 use Rattle.oas_canon.proofs.cell_keys.write_cell_keys.Goals as goal
 
-pub returns-in-Ok-clause-written : goal.returns-in-Ok-clause-written
-returns-in-Ok-clause-written g c =
-    let short : length (cell_key_lines (meaning_of c.args.layout.now)) < 2 ^ 64 = omega (arith, c.in-Ok.ensures.short) in
-    written g.W.Device.calls c.new-outlet.ensures c.in-Ok.ensures.writes c.in-Ok.ensures.all (λ name. search rules) c.taken.ensures short
+pub returns-clause-written : goal.returns-clause-written
+returns-clause-written g c = search rules
 
-pub returns-in-Err-clause-refused : goal.returns-in-Err-clause-refused
-returns-in-Err-clause-refused g c =
-    let short : length (cell_key_lines (meaning_of c.args.layout.now)) < 2 ^ 64 = omega (arith, c.in-Err.ensures.short) in
-    cut_off g.W.Device.calls c.new-outlet.ensures c.in-Err.ensures.writes (λ name. search rules) c.taken-in-Err.ensures short
+pub returns-clause-refused : goal.returns-clause-refused
+returns-clause-refused g c = search rules

@@ -9,8 +9,8 @@ loop-change-preserved c =
     let inv = c.loop-change.invariant in
     let change = c.in-Some.change in
     let rest = held_changed c.next_change.new.before c.next_change.new.after in
-    let first = ap only_first c.in-Some.ensures.changed ∙ first_more change.element.now change.before change.after rest in
-    let second = ap only_second c.in-Some.ensures.changed ∙ second_more change.element.now change.before change.after rest in
+    let first = ap only_first c.in-Some.ensures.changed ∙ first_more change.element change.before change.after rest in
+    let second = ap only_second c.in-Some.ensures.changed ∙ second_more change.element change.before change.after rest in
     record {
       first = omega (arith, inv.first, first, c.saturating_sub-gone.ensures, c.saturating_add.ensures);
       second = omega (arith, inv.second, second, c.saturating_sub-come.ensures, c.saturating_add-in-Some.ensures);

@@ -1,10 +1,10 @@
 use Rattle.std.proofs.Common.{◌≡◌, ◌+◌, ◌<◌, ◌^◌, length}
 use Rattle.std.specs.List.Sorted.{IsStrictlySortedBy}
 use Rattle.std.specs.Map.{keys_of}
-use Rattle.oas_layout.specs.Element.{element_cmp}
+use Rattle.oas_elements.specs.Element.{element_cmp}
 use Rattle.oas_difference.specs.Brief.{only_first, only_second}
 use Rattle.oas_difference.specs.Held.{held_changed}
-use Rattle.oas_difference.specs.Microns.{counted_to}
+use Rattle.oas_diff_text.specs.Microns.{counted_to}
 use Rattle.oas_difference.proofs.brief.count_changes.Given as goal
 
 abbrev pub invariant-loop-change : goal.invariant-loop-change

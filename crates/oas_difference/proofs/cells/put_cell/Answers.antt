@@ -3,11 +3,12 @@ use Rattle.std.specs.List.Sorted.{IsStrictlySortedBy}
 use Rattle.std.specs.Map.{keys_of}
 use Rattle.std.proofs.lemmas.Result.{err_from_is_err_and}
 use Rattle.oas_num.proofs.PuttingLemmas.{begins, fails_at, ends, ◌▸◌}
-use Rattle.oas_layout.specs.declared.element.Element.{Element}
-use Rattle.oas_layout.specs.Element.{element_cmp}
-use Rattle.oas_difference.specs.Entries.{cell_entry}
+use Rattle.oas_elements.specs.declared.element.Element.{Element}
+use Rattle.oas_elements.specs.Element.{element_cmp}
+use Rattle.oas_diff_text.specs.Entries.{cell_entry}
 use Rattle.oas_difference.specs.Held.{held_changes, held_cell}
-use Rattle.oas_difference.proofs.Steps.{sorted_of, only_before, only_after, left_is}
+use Rattle.oas_diff_text.proofs.EntryLemmas.{left_is}
+use Rattle.oas_difference.proofs.Steps.{sorted_of, only_before, only_after}
 use Rattle.oas_difference.proofs.cells.put_cell.Goals as goal
 
 pub put_changes-requires-clause-after : goal.put_changes-requires-clause-after

@@ -2,7 +2,7 @@ use Rattle.std.proofs.Common.{flat_map, ap}
 use Rattle.std.proofs.lemmas.Result.{err_from_is_err_and}
 use Rattle.oas_num.proofs.PuttingLemmas.{fails_at, ◌▸◌}
 use Rattle.oas_difference.specs.Held.{held_by}
-use Rattle.oas_difference.proofs.Steps.{left_is}
+use Rattle.oas_diff_text.proofs.EntryLemmas.{left_is}
 use Rattle.oas_difference.proofs.cells.put_cells.Goals as goal
 
 pub loop-pair-preserved : goal.loop-pair-preserved

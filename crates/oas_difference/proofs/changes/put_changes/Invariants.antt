@@ -2,7 +2,7 @@ use Rattle.std.proofs.Common.{◌+◌, length}
 use Rattle.std.specs.List.Sorted.{IsStrictlySortedBy}
 use Rattle.std.specs.Map.{keys_of}
 use Rattle.oas_num.proofs.PuttingLemmas.{PutSoFar}
-use Rattle.oas_layout.specs.Element.{element_cmp}
+use Rattle.oas_elements.specs.Element.{element_cmp}
 use Rattle.oas_difference.specs.Held.{held_changes}
 use Rattle.oas_difference.proofs.changes.put_changes.Given as goal
 

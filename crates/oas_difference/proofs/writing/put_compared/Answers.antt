@@ -5,14 +5,14 @@ use Rattle.std.specs.Ordering.{nat_cmp}
 use Rattle.std.specs.Cmp.Lexicographic.{slice_cmp}
 use Rattle.std.specs.List.Sorted.{IsStrictlySortedBy}
 use Rattle.std.specs.Map.{keys_of}
-use Rattle.oas_layout.specs.Contents.{Cell, meaning_of}
+use Rattle.oas_elements.specs.Contents.{Cell, meaning_of}
 use Rattle.oas_difference.specs.Difference.{unit_changes}
 use Rattle.oas_difference.specs.Format.{notation_of}
 use Rattle.oas_difference.specs.Options.{compared}
 use Rattle.oas_difference.specs.Held.{held_lines}
 use Rattle.oas_difference.proofs.Chosen.{sorted_cells}
 use Rattle.oas_difference.proofs.Compared.{compared_held, compared_short}
-use Rattle.oas_difference.proofs.Steps.{left_is}
+use Rattle.oas_diff_text.proofs.EntryLemmas.{left_is}
 use Rattle.oas_difference.proofs.writing.put_compared.Goals as goal
 
 pub returns-in_err-put_units-clause-short : goal.returns-in_err-put_units-clause-short

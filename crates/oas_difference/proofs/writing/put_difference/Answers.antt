@@ -1,8 +1,8 @@
 use Rattle.std.proofs.Common.{◌^◌, ◌<◌, List, ℕ, None, length, subst}
 use Rattle.oas_num.specs.Writing.{Writes}
-use Rattle.oas_layout.specs.Contents.{meaning_of}
-use Rattle.oas_difference.specs.declared.format.TheConstants.{PLAIN}
-use Rattle.oas_difference.specs.declared.options.Options.{Options}
+use Rattle.oas_elements.specs.Contents.{meaning_of}
+use Rattle.oas_diff_options.specs.declared.format.TheConstants.{PLAIN}
+use Rattle.oas_diff_options.specs.declared.options.Options.{Options}
 use Rattle.oas_difference.proofs.Compared.{compared_by_default}
 use Rattle.oas_difference.proofs.writing.put_difference.Goals as goal
 

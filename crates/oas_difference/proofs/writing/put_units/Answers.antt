@@ -2,7 +2,8 @@ use Rattle.std.proofs.Common.{◌≡◌, ◌∙◌, false, sym}
 use Rattle.std.proofs.lemmas.Result.{err_from_is_err_and}
 use Rattle.oas_num.proofs.PuttingLemmas.{begins, fails_at, ends, ◌▸◌}
 use Rattle.oas_difference.specs.Difference.{same_ratio}
-use Rattle.oas_difference.proofs.Steps.{units_parts, left_is}
+use Rattle.oas_diff_text.proofs.EntryLemmas.{left_is}
+use Rattle.oas_difference.proofs.Steps.{units_parts}
 use Rattle.oas_difference.proofs.writing.put_units.Goals as goal
 
 pub returns-in_err-put_unit_entry : goal.returns-in_err-put_unit_entry

@@ -1,7 +1,7 @@
 use Rattle.std.proofs.Common.{nat_cmp, sym, ◌∙◌, ap}
 use Rattle.std.specs.Cmp.Lexicographic.{slice_cmp}
-use Rattle.oas_layout.specs.Element.{element_cmp, ◌then◌}
-use Rattle.oas_layout.specs.declared.element.Element.TheVariants.{Text}
+use Rattle.oas_elements.specs.Element.{element_cmp, ◌then◌}
+use Rattle.oas_elements.specs.declared.element.Element.TheVariants.{Text}
 use Rattle.oas_form.proofs.following.text_order.Goals as goal
 
 pub returns : goal.returns

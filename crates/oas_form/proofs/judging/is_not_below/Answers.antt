@@ -1,7 +1,7 @@
 use Rattle.std.proofs.Common.{◌≡◌, Bool, true, false, not, Option, IsTrue, ◌↔◌, is_gt, refl, ap, sym, ◌∙◌, subst}
-use Rattle.oas_layout.specs.declared.element.Element.{Element}
-use Rattle.oas_layout.specs.Element.{element_cmp}
-use Rattle.oas_layout.specs.Laws.ElementLaws.{order_is_stated, derived_cmp}
+use Rattle.oas_elements.specs.declared.element.Element.{Element}
+use Rattle.oas_elements.specs.Element.{element_cmp}
+use Rattle.oas_elements.specs.Laws.ElementLaws.{order_is_stated, derived_cmp}
 use Rattle.oas_form.specs.Judging.{IsNotBelow}
 use Rattle.oas_form.proofs.judging.is_not_below.Goals as goal
 

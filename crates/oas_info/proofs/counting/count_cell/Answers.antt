@@ -1,4 +1,4 @@
-use Rattle.oas_layout.specs.Bag.{items}
+use Rattle.oas_elements.specs.Bag.{items}
 use Rattle.oas_info.proofs.CountingLemmas.{of_cell_room}
 use Rattle.oas_info.proofs.counting.count_cell.Goals as goal
 

@@ -1,5 +1,5 @@
 use Rattle.std.proofs.Common.{◌≡◌, ℕ, ◌+◌, ◌*◌, refl, ap}
-use Rattle.oas_layout.specs.Weight.{weight_of}
+use Rattle.oas_elements.specs.Weight.{weight_of}
 use Rattle.oas_info.proofs.CountingLemmas.{one_light, groups_room, element_counted}
 use Rattle.oas_info.proofs.counting.count_element.Goals as goal
 

@@ -1,5 +1,5 @@
 use Rattle.std.proofs.Common.{◌≡◌, suc, List, [], ◌∷◌, length, refl, sym, ap, ◌∙◌}
-use Rattle.oas_layout.specs.Contents.{Cell, expanded}
+use Rattle.oas_elements.specs.Contents.{Cell, expanded}
 use Rattle.oas_info.proofs.facts.facts_of.Goals as goal
 
 length-expanded : (cs : List Cell) → length (expanded cs) ≡ length cs

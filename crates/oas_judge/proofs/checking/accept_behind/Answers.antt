@@ -1,7 +1,6 @@
-use Rattle.std.proofs.Common.{Err}
 use Rattle.std.proofs.lemmas.Result.{err_from_is_err_and, on_ok_weaker, IfErr-weaker}
 use Rattle.oas_num.proofs.ReadLemmas.{Consumed-none}
-use Rattle.oas_runs.proofs.oas_file_proofs.Ending.{accepted}
+use Rattle.oas_writing.proofs.Ending.{end_refuses}
 use Rattle.oas_judge.proofs.RecordSteps.{as_kept}
 use Rattle.oas_judge.proofs.FileLemmas.{has_begun, kept_within, all_seen, judged}
 use Rattle.oas_judge.proofs.checking.accept_behind.Goals as goal
@@ -23,5 +22,5 @@ returns-clause-refused g c = λ origin begun.
     let b = has_begun begun c.new-reader.ensures.stands in
     let all = c.in_ok-end.ensures.judged c.args.profile b in
     IfErr-weaker c.finish_counting.result _ _
-    (λ refusal h. as_kept (accepted (all_seen b all) (Consumed-none _) c.in_ok-end.ensures.ended (Err refusal) c.new-reader.ensures.limits tt h))
+    (λ refusal h. as_kept (end_refuses (all_seen b all) (Consumed-none _) c.in_ok-end.ensures.ended refusal c.new-reader.ensures.limits h))
     (c.finish_counting.ensures.refused _ all.taken.stands)

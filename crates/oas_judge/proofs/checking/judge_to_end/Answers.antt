@@ -1,5 +1,5 @@
 use Rattle.std.proofs.lemmas.Result.{err_from_is_err_and}
-use Rattle.oas_runs.proofs.oas_file_proofs.Ending.{not_ended}
+use Rattle.oas_writing.proofs.Ending.{not_ended}
 use Rattle.oas_judge.proofs.RecordSteps.{as_kept}
 use Rattle.oas_judge.proofs.FileLemmas.{all_seen, seen_to_end}
 use Rattle.oas_judge.proofs.checking.judge_to_end.Goals as goal

@@ -1,5 +1,5 @@
 use Rattle.std.proofs.Common.{rules, ◌≡◌, Some, arith}
-use Rattle.oas_layout.specs.declared.element.Element.TheVariants.{Placement, Text}
+use Rattle.oas_elements.specs.declared.element.Element.TheVariants.{Placement, Text}
 use Rattle.oas_peek.specs.declared.named.Given.TheVariants.{Bytes}
 use Rattle.oas_peek.specs.declared.named.NamedOnce.TheVariants as once
 use Rattle.oas_judge.proofs.NamedSteps.{placement_named, text_named}

@@ -1,6 +1,13 @@
 use Rattle.std.proofs.Common.{sym, ap, ◌∙◌}
+use Rattle.std.proofs.lemmas.Result.{err_from_is_err_and}
 use Rattle.oas_num.specs.Script.{Script}
+use Rattle.oas_judge.proofs.RecordSteps.{as_kept}
 use Rattle.oas_judge.proofs.records.judge_next.Goals as goal
+
+pub returns-in_err-next_at_hand : goal.returns-in_err-next_at_hand
+returns-in_err-next_at_hand g c =
+    let p = err_from_is_err_and c.from_residual.result c.from_residual.ensures.1 in
+    rw (p.1, p.2) (λ profile now first judge b m. as_kept (c.in_err-next_at_hand.ensures profile now first judge b m))
 
 pub judge_read-requires : goal.judge_read-requires
 judge_read-requires g c =

@@ -11,7 +11,7 @@ loop-source-preserved g c =
     let more = rw c.if-branch.true at c.in_ok-judge_next.ensures in
     record {
       place = c.at-at-in-loop-source.ensures;
-      seen = λ profile b. more.1 profile _ _ _ b (c.loop-source.invariant.seen profile b);
+      seen = λ profile b. (more.1 profile _ _ _ b (c.loop-source.invariant.seen profile b)).0;
     }
 
 pub returns : goal.returns

@@ -1,5 +1,5 @@
 use Rattle.std.proofs.Common.{◌≡◌, ◌-◌, ◌^◌}
-use Rattle.oas_layout.specs.declared.profile.Profile.{Profile}
+use Rattle.oas_elements.specs.declared.profile.Profile.{Profile}
 use Rattle.oas_judge.specs.Judged.{HasBegun, HasSeen}
 use Rattle.oas_judge.proofs.records.judge_records.Given as goal
 

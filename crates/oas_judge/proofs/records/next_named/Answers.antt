@@ -1,5 +1,5 @@
 use Rattle.std.proofs.lemmas.Result.{err_from_is_err_and}
-use Rattle.oas_runs.proofs.oas_file_proofs.Taking.{named_inner}
+use Rattle.oas_writing.proofs.Taking.{named_inner}
 use Rattle.oas_judge.proofs.RecordSteps.{peeked_refused, peeked_seen, peeked_grows}
 use Rattle.oas_judge.proofs.records.next_named.Goals as goal
 

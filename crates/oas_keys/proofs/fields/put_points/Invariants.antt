@@ -2,7 +2,7 @@ use Rattle.std.proofs.Common.{◌≡◌, ◌+◌, ◌*◌, ◌≤◌, ◌++◌, 
 use Rattle.std.specs.List.{list_all}
 use Rattle.oas_ring.specs.declared.point.Point.{Point}
 use Rattle.oas_ring.specs.Points.{origin}
-use Rattle.oas_layout.specs.Grid.{is_grid_point}
+use Rattle.oas_elements.specs.Grid.{is_grid_point}
 use Rattle.oas_keys.specs.Keys.{points_key}
 use Rattle.oas_keys.proofs.fields.put_points.Given as goal
 

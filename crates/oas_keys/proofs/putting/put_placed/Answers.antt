@@ -1,5 +1,5 @@
 use Rattle.std.proofs.Common.{◌≡◌, ◌++◌, ◌∙◌, sym, ap, ℕ, List, rules, w64, FitsSigned}
-use Rattle.oas_layout.specs.declared.element.Element.{Element}
+use Rattle.oas_elements.specs.declared.element.Element.{Element}
 use Rattle.oas_keys.specs.Numbers.{unsigned_key, signed_key}
 use Rattle.oas_keys.specs.Keys.{fields_key}
 use Rattle.oas_keys.proofs.PutLemmas.{puts, after_pair, passed}

@@ -1,7 +1,7 @@
 use Rattle.std.proofs.Common.{◌≡◌, ◌++◌, ◌∙◌, sym, ap, ℕ, List, rules, w64, FitsSigned}
 use Rattle.oas_ring.specs.declared.point.Point.{Point}
 use Rattle.oas_ring.specs.Points.{origin}
-use Rattle.oas_layout.specs.declared.element.Element.{Element}
+use Rattle.oas_elements.specs.declared.element.Element.{Element}
 use Rattle.oas_keys.specs.Numbers.{unsigned_key, signed_key}
 use Rattle.oas_keys.specs.Keys.{fields_key, points_key}
 use Rattle.oas_keys.proofs.PutLemmas.{puts, after_pair, passed}

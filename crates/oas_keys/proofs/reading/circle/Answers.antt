@@ -1,5 +1,5 @@
 use Rattle.std.proofs.Common.{[], ◌++◌, ◌∙◌}
-use Rattle.oas_layout.specs.declared.element.Element.TheVariants.{Circle}
+use Rattle.oas_elements.specs.declared.element.Element.TheVariants.{Circle}
 use Rattle.oas_keys.specs.Numbers.{unsigned_key, signed_key}
 use Rattle.oas_keys.proofs.KindLemmas.{ends, step_is, circle_steps}
 use Rattle.oas_keys.proofs.reading.circle.Goals as goal

@@ -1,6 +1,6 @@
 use Rattle.std.proofs.Common.{◌++◌, ◌∙◌}
 use Rattle.oas_ring.specs.Points.{origin}
-use Rattle.oas_layout.specs.declared.element.Element.TheVariants.{Path}
+use Rattle.oas_elements.specs.declared.element.Element.TheVariants.{Path}
 use Rattle.oas_keys.specs.Numbers.{unsigned_key, signed_key}
 use Rattle.oas_keys.specs.Keys.{points_key}
 use Rattle.oas_keys.proofs.KindLemmas.{step_is, path_steps}

@@ -1,5 +1,5 @@
 use Rattle.std.proofs.Common.{[], ◌++◌}
-use Rattle.oas_layout.specs.declared.element.Element.TheVariants.{Placement}
+use Rattle.oas_elements.specs.declared.element.Element.TheVariants.{Placement}
 use Rattle.oas_keys.specs.Numbers.{signed_key}
 use Rattle.oas_keys.specs.Keys.{turned_key}
 use Rattle.oas_keys.specs.Laws.KeyLaws.{name_bytes}

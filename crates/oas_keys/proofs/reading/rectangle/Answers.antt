@@ -1,5 +1,5 @@
 use Rattle.std.proofs.Common.{[], ◌++◌, ◌∙◌}
-use Rattle.oas_layout.specs.declared.element.Element.TheVariants.{Rectangle}
+use Rattle.oas_elements.specs.declared.element.Element.TheVariants.{Rectangle}
 use Rattle.oas_keys.specs.Numbers.{unsigned_key, signed_key}
 use Rattle.oas_keys.proofs.KindLemmas.{ends, step_is, rectangle_steps}
 use Rattle.oas_keys.proofs.reading.rectangle.Goals as goal

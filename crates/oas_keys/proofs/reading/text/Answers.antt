@@ -1,5 +1,5 @@
 use Rattle.std.proofs.Common.{[], ◌++◌, ◌∙◌}
-use Rattle.oas_layout.specs.declared.element.Element.TheVariants.{Text}
+use Rattle.oas_elements.specs.declared.element.Element.TheVariants.{Text}
 use Rattle.oas_keys.specs.Numbers.{unsigned_key, signed_key}
 use Rattle.oas_keys.specs.Laws.KeyLaws.{label_bytes}
 use Rattle.oas_keys.proofs.KindLemmas.{ends, step_is, text_steps}

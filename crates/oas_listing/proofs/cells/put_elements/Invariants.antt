@@ -1,5 +1,5 @@
 use Rattle.std.proofs.Common.{flat_map}
-use Rattle.oas_layout.specs.Bag.{items}
+use Rattle.oas_elements.specs.Bag.{items}
 use Rattle.oas_listing.specs.Listing.{element_line}
 use Rattle.oas_num.proofs.PuttingLemmas.{PutSoFar}
 use Rattle.oas_listing.proofs.cells.put_elements.Given as goal

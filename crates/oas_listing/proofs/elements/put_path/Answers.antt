@@ -1,4 +1,4 @@
-use Rattle.std.proofs.Common.{◌≡◌, [], ◌∷◌, decimal, rules, w64}
+use Rattle.std.proofs.Common.{[], ◌∷◌, decimal, rules, w64}
 use Rattle.std.specs.Prelude.{codes}
 use Rattle.std.specs.Fmt.{signed_decimal}
 use Rattle.std.proofs.lemmas.Int.{to_z-of_z}
@@ -10,15 +10,10 @@ use Rattle.oas_listing.proofs.elements.put_path.Goals as goal
 pub returns-in_err-put_start : goal.returns-in_err-put_start
 returns-in_err-put_start g c =
     let p = err_from_is_err_and c.from_residual.result c.from_residual.ensures.1 in
-    rw (p.1, point_fields (codes "path") (decimal c.args.layer ∷ decimal c.args.datatype ∷ decimal c.args.half_width ∷ signed_decimal c.args.start ∷ signed_decimal c.args.end ∷ []) c.args.points.now)
+    rw (p.1, point_fields (codes "path") (decimal c.args.layer ∷ decimal c.args.datatype ∷ decimal c.args.half_width ∷ signed_decimal c.args.start ∷ signed_decimal c.args.end ∷ []) c.args.points)
     (fails_at _ (begins _ _) (simp (to_z-of_z w64 c.args.start (search rules), to_z-of_z w64 c.args.end (search rules)) at c.in_err-put_start.ensures))
 
 pub returns : goal.returns
 returns g c =
-    let points : c.as_slice.result.now ≡ c.args.points.now = c.as_slice.ensures in
-    rw (
-      point_fields (codes "path") (decimal c.args.layer ∷ decimal c.args.datatype ∷ decimal c.args.half_width ∷ signed_decimal c.args.start
-          ∷ signed_decimal c.args.end ∷ []) c.args.points.now,
-      ← points,
-    )
+    rw (point_fields (codes "path") (decimal c.args.layer ∷ decimal c.args.datatype ∷ decimal c.args.half_width ∷ signed_decimal c.args.start ∷ signed_decimal c.args.end ∷ []) c.args.points)
     (ends _ _ (first _ (simp (to_z-of_z w64 c.args.start (search rules), to_z-of_z w64 c.args.end (search rules)) at c.in_ok-put_start.ensures)) c.put_points.ensures)

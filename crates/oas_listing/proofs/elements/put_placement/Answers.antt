@@ -1,7 +1,7 @@
 use Rattle.std.proofs.Common.{◌≡◌, rules, w64}
 use Rattle.std.proofs.lemmas.Int.{to_z-of_z}
 use Rattle.std.proofs.lemmas.Result.{err_from_is_err_and}
-use Rattle.oas_layout.specs.Element.{turn_count}
+use Rattle.oas_elements.specs.Element.{turn_count}
 use Rattle.oas_listing.specs.Listing.{flip_count}
 use Rattle.oas_num.proofs.PuttingLemmas.{first, begins, fails_at, ends, ◌▸◌}
 use Rattle.oas_listing.proofs.FieldLemmas.{placement_fields}

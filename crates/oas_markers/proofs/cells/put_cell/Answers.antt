@@ -3,13 +3,13 @@ use Rattle.std.specs.List.Sorted.{IsStrictlySortedBy}
 use Rattle.std.specs.Map.{keys_of}
 use Rattle.std.proofs.lemmas.Result.{err_from_is_err_and}
 use Rattle.oas_num.proofs.PuttingLemmas.{begins, fails_at, ends, ◌▸◌}
-use Rattle.oas_layout.specs.declared.element.Element.{Element}
-use Rattle.oas_layout.specs.Element.{element_cmp}
+use Rattle.oas_elements.specs.declared.element.Element.{Element}
+use Rattle.oas_elements.specs.Element.{element_cmp}
 use Rattle.oas_difference.proofs.Steps.{sorted_of}
 use Rattle.oas_markers.specs.Markers.{alone}
 use Rattle.oas_markers.specs.Held.{held_item, change_items}
 use Rattle.oas_markers.proofs.Firsts.{first_then, on_ok}
-use Rattle.oas_difference.proofs.Steps.{left_is}
+use Rattle.oas_difference.proofs.EntryLemmas.{left_is}
 use Rattle.oas_markers.proofs.cells.put_cell.Goals as goal
 
 pub put_changes-requires-clause-before : goal.put_changes-requires-clause-before

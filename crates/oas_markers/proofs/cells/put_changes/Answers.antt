@@ -4,7 +4,7 @@ use Rattle.oas_num.proofs.PuttingLemmas.{fails_at, all_put, ◌▸◌}
 use Rattle.oas_markers.specs.Markers.{change_item, first_items}
 use Rattle.oas_markers.specs.Held.{change_items}
 use Rattle.oas_markers.proofs.Firsts.{none_first, first_then}
-use Rattle.oas_difference.proofs.Steps.{left_is}
+use Rattle.oas_difference.proofs.EntryLemmas.{left_is}
 use Rattle.oas_markers.proofs.Steps.{first_item}
 use Rattle.oas_markers.proofs.cells.put_changes.Goals as goal
 
@@ -13,9 +13,9 @@ loop-change-preserved g c =
     let change = c.in-Some.change in
     let inv = c.loop-change.invariant in
     let step = first_item c.args.gone c.args.come c.args.name.now c.loop-change.before c.loop-change.after c.next_change.new.before c.next_change.new.after
-    change.element.now change.before change.after c.in-Some.ensures.unlike c.in-Some.ensures.changed in
+    change.element change.before change.after c.in-Some.ensures.unlike c.in-Some.ensures.changed in
     let rest = change_items c.args.gone c.args.come c.args.name.now c.next_change.new.before c.next_change.new.after in
-    let item = change_item c.args.gone c.args.come c.args.name.now (change.element.now, (change.before, change.after)) in
+    let item = change_item c.args.gone c.args.come c.args.name.now (change.element, (change.before, change.after)) in
     let left = c.in_ok-put_first_change.ensures.left in
     record {
       put = left_is inv.put (first_then c.loop-change.left c.put_first_change.new.left (item ∷ []) rest _ step left) ▸ c.in_ok-put_first_change.ensures.writes;
@@ -30,9 +30,9 @@ returns-in_err-put_first_change-clause-writes g c =
     let change = c.in-Some.change in
     let inv = c.loop-change.invariant in
     let step = first_item c.args.gone c.args.come c.args.name.now c.loop-change.before c.loop-change.after c.next_change.new.before c.next_change.new.after
-    change.element.now change.before change.after c.in-Some.ensures.unlike c.in-Some.ensures.changed in
+    change.element change.before change.after c.in-Some.ensures.unlike c.in-Some.ensures.changed in
     let rest = change_items c.args.gone c.args.come c.args.name.now c.next_change.new.before c.next_change.new.after in
-    let item = change_item c.args.gone c.args.come c.args.name.now (change.element.now, (change.before, change.after)) in
+    let item = change_item c.args.gone c.args.come c.args.name.now (change.element, (change.before, change.after)) in
     rw p.1 (fails_at _ (left_is inv.put (first_then c.loop-change.left _ (item ∷ []) rest _ step refl)) c.in_err-put_first_change.ensures.writes)
 
 pub returns-clause-writes : goal.returns-clause-writes

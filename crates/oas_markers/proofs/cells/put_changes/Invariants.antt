@@ -3,7 +3,7 @@ use Rattle.std.specs.Prelude.{◌-◌}
 use Rattle.std.specs.List.Sorted.{IsStrictlySortedBy}
 use Rattle.std.specs.Map.{keys_of}
 use Rattle.oas_num.proofs.PuttingLemmas.{PutSoFar}
-use Rattle.oas_layout.specs.Element.{element_cmp}
+use Rattle.oas_elements.specs.Element.{element_cmp}
 use Rattle.oas_markers.specs.Markers.{first_items}
 use Rattle.oas_markers.specs.Held.{change_items}
 use Rattle.oas_markers.proofs.cells.put_changes.Given as goal

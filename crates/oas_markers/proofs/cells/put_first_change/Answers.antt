@@ -9,4 +9,4 @@ returns-clause-writes g c =
     let some : 0 < c.args.left.now = omega (arith, c.if-left-eq0.false) in
     let change = c.args.change in
     subst (λ (bs : List ℕ). Writes g.K.Sink.given g.K.Sink.failures c.args.sink.now bs c.put_change.result c.put_change.new.sink)
-    (sym (first_one c.args.left.now (change_item c.args.gone c.args.come c.args.name.now (change.element.now, (change.before, change.after))) some)) c.put_change.ensures
+    (sym (first_one c.args.left.now (change_item c.args.gone c.args.come c.args.name.now (change.element, (change.before, change.after))) some)) c.put_change.ensures

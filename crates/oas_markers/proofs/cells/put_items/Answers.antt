@@ -4,7 +4,7 @@ use Rattle.oas_num.proofs.PuttingLemmas.{fails_at, all_put, ◌▸◌}
 use Rattle.oas_markers.specs.Markers.{first_items}
 use Rattle.oas_markers.specs.Held.{held_item, held_items}
 use Rattle.oas_markers.proofs.Firsts.{none_first, first_then}
-use Rattle.oas_difference.proofs.Steps.{left_is}
+use Rattle.oas_difference.proofs.EntryLemmas.{left_is}
 use Rattle.oas_markers.proofs.cells.put_items.Goals as goal
 
 pub loop-pair-preserved : goal.loop-pair-preserved

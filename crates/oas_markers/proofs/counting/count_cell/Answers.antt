@@ -1,8 +1,8 @@
 use Rattle.std.proofs.Common.{List, ℕ, sym, subst}
 use Rattle.std.specs.List.Sorted.{IsStrictlySortedBy}
 use Rattle.std.specs.Map.{keys_of}
-use Rattle.oas_layout.specs.declared.element.Element.{Element}
-use Rattle.oas_layout.specs.Element.{element_cmp}
+use Rattle.oas_elements.specs.declared.element.Element.{Element}
+use Rattle.oas_elements.specs.Element.{element_cmp}
 use Rattle.oas_difference.proofs.Steps.{sorted_of}
 use Rattle.oas_markers.proofs.Firsts.{cell_count}
 use Rattle.oas_markers.proofs.counting.count_cell.Goals as goal

@@ -1,7 +1,7 @@
 use Rattle.std.proofs.Common.{◌≡◌, ◌+◌, ◌<◌, ◌^◌, length}
 use Rattle.std.specs.List.Sorted.{IsStrictlySortedBy}
 use Rattle.std.specs.Map.{keys_of}
-use Rattle.oas_layout.specs.Element.{element_cmp}
+use Rattle.oas_elements.specs.Element.{element_cmp}
 use Rattle.oas_difference.specs.Held.{held_changed}
 use Rattle.oas_difference.specs.Microns.{counted_to}
 use Rattle.oas_markers.proofs.counting.count_changes.Given as goal

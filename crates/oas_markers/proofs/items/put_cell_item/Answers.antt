@@ -1,5 +1,5 @@
 use Rattle.std.proofs.Common.{refl}
-use Rattle.oas_difference.proofs.Steps.{left_is}
+use Rattle.oas_difference.proofs.EntryLemmas.{left_is}
 use Rattle.oas_markers.proofs.Steps.{cell_item_parts}
 use Rattle.std.proofs.lemmas.Result.{err_from_is_err_and}
 use Rattle.oas_num.proofs.PuttingLemmas.{begins, fails_at, ends, ◌▸◌}

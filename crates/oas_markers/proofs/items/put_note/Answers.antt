@@ -1,6 +1,6 @@
 use Rattle.std.proofs.lemmas.Result.{err_from_is_err_and}
 use Rattle.oas_num.proofs.PuttingLemmas.{begins, fails_at, ends, ◌▸◌}
-use Rattle.oas_difference.proofs.Steps.{left_is}
+use Rattle.oas_difference.proofs.EntryLemmas.{left_is}
 use Rattle.oas_markers.proofs.Steps.{note_parts}
 use Rattle.oas_markers.proofs.items.put_note.Goals as goal
 

@@ -15,8 +15,8 @@ returns-in_err-put_all g c =
 pub returns-in_err-put_layer : goal.returns-in_err-put_layer
 returns-in_err-put_layer g c =
     let p = err_from_is_err_and c.from_residual-in_err-put_layer.result c.from_residual-in_err-put_layer.ensures.1 in
-    rw p.1 (fails_at _ (first _ c.in_ok-put_shape.ensures ▸ c.in_ok-put_all.ensures) c.in_err-put_layer.ensures)
+    rw (p.1, ← c.layer_of-layer.ensures) (fails_at _ (first _ c.in_ok-put_shape.ensures ▸ c.in_ok-put_all.ensures) c.in_err-put_layer.ensures)
 
 pub returns : goal.returns
 returns g c =
-    ends _ _ (first _ c.in_ok-put_shape.ensures ▸ c.in_ok-put_all.ensures ▸ c.in_ok-put_layer.ensures) c.put_all-2.ensures
+    rw (← c.layer_of-layer.ensures) (ends _ _ (first _ c.in_ok-put_shape.ensures ▸ c.in_ok-put_all.ensures ▸ c.in_ok-put_layer.ensures) c.put_all-2.ensures)

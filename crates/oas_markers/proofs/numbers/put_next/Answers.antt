@@ -11,6 +11,6 @@ returns-in_err-put g c =
 
 pub returns : goal.returns
 returns g c =
-    let fx : SFits w64 c.args.point.now.x = search rules in
-    let fy : SFits w64 c.args.point.now.y = search rules in
+    let fx : SFits w64 c.args.point.x = search rules in
+    let fy : SFits w64 c.args.point.y = search rules in
     ends _ _ (first _ c.in_ok-put.ensures) (simp to_z-of_z at c.put_place.ensures)

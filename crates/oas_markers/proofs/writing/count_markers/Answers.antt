@@ -4,7 +4,7 @@ use Rattle.std.specs.Cmp.Lexicographic.{slice_cmp}
 use Rattle.std.specs.List.Sorted.{IsStrictlySortedBy}
 use Rattle.std.specs.Map.{keys_of}
 use Rattle.std.proofs.Common.{List}
-use Rattle.oas_layout.specs.Contents.{Cell}
+use Rattle.oas_elements.specs.Contents.{Cell}
 use Rattle.oas_difference.proofs.Chosen.{sorted_cells}
 use Rattle.oas_difference.specs.Microns.{counted_to}
 use Rattle.oas_markers.specs.Held.{held_items}

@@ -5,13 +5,13 @@ use Rattle.std.specs.List.Sorted.{IsStrictlySortedBy}
 use Rattle.std.specs.Map.{keys_of}
 use Rattle.std.proofs.lemmas.Result.{err_from_is_err_and}
 use Rattle.oas_num.proofs.PuttingLemmas.{begins, ends, fails_at, ◌▸◌}
-use Rattle.oas_layout.specs.Contents.{Cell, meaning_of}
+use Rattle.oas_elements.specs.Contents.{Cell, meaning_of}
 use Rattle.oas_difference.specs.Choice.{chosen}
 use Rattle.oas_difference.proofs.Chosen.{sorted_cells}
 use Rattle.oas_markers.specs.Markers.{head, first_items, markers}
 use Rattle.oas_markers.specs.Held.{held_entries, held_items}
 use Rattle.oas_markers.proofs.HeldLemmas.{between, foot, chosen_markers}
-use Rattle.oas_difference.proofs.Steps.{left_is}
+use Rattle.oas_difference.proofs.EntryLemmas.{left_is}
 use Rattle.oas_markers.proofs.writing.put_markers.Goals as goal
 
 pub put_entries-requires-clause-before : goal.put_entries-requires-clause-before

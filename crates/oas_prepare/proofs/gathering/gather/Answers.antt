@@ -13,4 +13,4 @@ pub returns : goal.returns
 returns g c =
     let all = c.in_ok-at.ensures _ (gathered_none c.in_ok-head.ensures c.new-preparation.ensures.stands) in
     let ends = c.in_ok-find_end_of_input.ensures in
-    all_gathered all ends.0 ends.1 (rw c.new-preparation.ensures.unit c.in_ok-head.ensures.is_unit) c.new-preparation.ensures.limits c.new-preparation.ensures.profile c.new-preparation.ensures.dropping
+    all_gathered all ends.0 ends.1 (rw c.new-preparation.ensures.unit c.in_ok-head.ensures.is_unit) c.new-preparation.ensures.limits c.new-preparation.ensures.dropping

@@ -1,6 +1,6 @@
 use Rattle.std.proofs.Common.{ap, arith}
 use Rattle.std.proofs.lemmas.Result.{err_from_is_err_and}
-use Rattle.oas_narrow.specs.oas_wide.declared.records.WideRecord.TheVariants.{Block}
+use Rattle.oas_narrow.specs.WideRecord.TheVariants.{Block}
 use Rattle.oas_prepare.proofs.Blocks.{block_more, block_stops, prepared_by}
 use Rattle.oas_prepare.proofs.Gathered.{gather_fails, gather_more, gather_stops, gather_ends}
 use Rattle.oas_prepare.proofs.Items.{wide_onward}

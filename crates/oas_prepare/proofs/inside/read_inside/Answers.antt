@@ -1,6 +1,6 @@
 use Rattle.std.proofs.Common.{ℕ, ap, ◌∙◌}
 use Rattle.oas_num.specs.declared.refusals.Why.TheVariants as why
-use Rattle.oas_narrow.specs.oas_wide.declared.reasons.WideWhy.TheVariants as wide
+use Rattle.oas_narrow.specs.WideWhy.TheVariants as wide
 use Rattle.oas_prepare.specs.Inside.{EndInside, BlockInside}
 use Rattle.oas_prepare.specs.Places.{at_file}
 use Rattle.oas_prepare.proofs.inside.read_inside.Goals as goal

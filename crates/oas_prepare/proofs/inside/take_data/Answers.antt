@@ -6,24 +6,24 @@ use Rattle.oas_prepare.proofs.InnerStops.{some_fails, some_stops}
 use Rattle.oas_prepare.proofs.inside.take_data.Goals as goal
 
 pub records-init : goal.records-init
-records-init c = record {
+records-init g c = record {
   some = λ records stands prepared.
-      subst (λ (s : Script). HasSome c.args.flag_in_end c.args.preparation.now records c.args.plain.now.items s c.args.preparation.now None) (sym c.new-source.ensures)
-      (some_none c.args.flag_in_end c.args.plain.now.items stands prepared);
+      subst (λ (s : Script). HasSome g.C.CellStore.store c.args.flag_in_end c.args.preparation.now records c.args.plain.now.items s c.args.preparation.now None) (sym c.new-source.ensures)
+      (some_none g.C.CellStore.store c.args.flag_in_end c.args.preparation.now records c.args.plain.now.items stands prepared);
 }
 
 pub returns-then-within-length : goal.returns-then-within-length
-returns-then-within-length c = λ records stands prepared. some_all (c.records.invariant.some records stands prepared) (sym c.at-within.ensures ∙ c.if-within-length.true ∙ c.len-length.ensures)
+returns-then-within-length g c = λ records stands prepared. some_all (c.records.invariant.some records stands prepared) (sym c.at-within.ensures ∙ c.if-within-length.true ∙ c.len-length.ensures)
 
 pub returns-in_err-next : goal.returns-in_err-next
-returns-in_err-next c =
+returns-in_err-next g c =
     let p = err_from_is_err_and c.from_residual.result c.from_residual.ensures.1 in
     let none = rw c.if-pads-eq0.true at c.skip_zeros-pads.ensures.takes in
     rw (p.1, p.2) (λ records stands prepared.
     some_fails (some_kept (c.records.invariant.some records stands prepared) none) (λ e. c.if-within-length.false (kept_at c.at-within.ensures none ∙ e ∙ sym c.len-length.ensures)) _ c.in_err-next.ensures)
 
 pub returns-in_err-take : goal.returns-in_err-take
-returns-in_err-take c =
+returns-in_err-take g c =
     let p = err_from_is_err_and c.from_residual-in_err-take.result c.from_residual-in_err-take.ensures.1 in
     let none = rw c.if-pads-eq0.true at c.skip_zeros-pads.ensures.takes in
     let at = kept_at c.at-within.ensures none in
@@ -32,7 +32,7 @@ returns-in_err-take c =
     some_stops m (λ e. c.if-within-length.false (at ∙ e ∙ sym c.len-length.ensures)) _ at c.in_ok-next.ensures _ (c.in_err-take.ensures.stopped _ m.made.stands))
 
 pub records-preserved-in_ok-take : goal.records-preserved-in_ok-take
-records-preserved-in_ok-take c =
+records-preserved-in_ok-take g c =
     let none = rw c.if-pads-eq0.true at c.skip_zeros-pads.ensures.takes in
     record {
       some = λ records stands prepared.
@@ -41,7 +41,7 @@ records-preserved-in_ok-take c =
     }
 
 pub records-preserved : goal.records-preserved
-records-preserved c = record {
+records-preserved g c = record {
   some = λ records stands prepared.
       let skip = c.skip_zeros-pads.ensures in
       some_pads (c.records.invariant.some records stands prepared) _ c.at-within.ensures c.skip_zeros-pads.result (omega arith) skip.few skip.takes skip.stops;

@@ -8,7 +8,7 @@ returns-clause-reads g c =
     elim c.match-outcome.branch [
       | in-Ok w ↦
           let gathered = rw (c.new-summed.ensures.now, ← c.finish-from.ensures.now) at w.in-Ok.ensures in
-          rw w.read-is (finished gathered _ summed w.finish-read.result w.finish-read.ensures)
+          rw w.read-is (finished g.P.KeptBy.profile gathered _ summed w.finish-read.result w.finish-read.ensures)
       | in-Err w ↦
           let stops = rw (c.new-summed.ensures.now, ← c.finish-from.ensures.now) at w.in-Err.ensures in
           rw w.read-is stops

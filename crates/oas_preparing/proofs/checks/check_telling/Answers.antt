@@ -1,6 +1,6 @@
 use Rattle.std.proofs.Common.{◌≡◌, Bool, Result, Ok, Err, refl, subst, ◌∙◌}
-use Rattle.oas_prepare.specs.oas_narrow.declared.dropping.Report.{Report}
-use Rattle.oas_prepare.specs.oas_narrow.declared.places.Rejection.{Rejection}
+use Rattle.oas_prepare.specs.Report.{Report}
+use Rattle.oas_prepare.specs.Rejection.{Rejection}
 use Rattle.oas_preparing.specs.Answers.{reported, answered}
 use Rattle.oas_preparing.specs.Checks.{check_text}
 use Rattle.oas_preparing.specs.Runs.{Ends}

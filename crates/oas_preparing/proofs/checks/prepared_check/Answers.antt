@@ -11,7 +11,7 @@ pub returns-in-Some : goal.returns-in-Some
 returns-in-Some g c =
     let kept = rw c.in-Some.is at c.in_ok-layout.ensures.kept in
     let equal = rw c.deref.ensures.value at c.has_canonical_bytes.ensures.bytes in
-    checked c.in_ok-layout.ensures.read c.has_canonical_bytes.ensures.layout _ kept _ equal
+    checked c.in_ok-layout.ensures.read _ kept _ equal
 
 pub returns : goal.returns
 returns g c = rw (c.unkept.ensures, c.at.ensures) (not_kept c.in_ok-layout.ensures.read)

@@ -1,6 +1,6 @@
 use Rattle.std.proofs.Common.{◌≡◌, List, ℕ, Result, Ok, Err, refl, ap, subst, ◌∙◌}
-use Rattle.oas_prepare.specs.oas_narrow.declared.dropping.Report.{Report}
-use Rattle.oas_prepare.specs.oas_narrow.declared.places.Rejection.{Rejection}
+use Rattle.oas_prepare.specs.Report.{Report}
+use Rattle.oas_prepare.specs.Rejection.{Rejection}
 use Rattle.oas_preparing.specs.Answers.{reported, answered, key_text}
 use Rattle.oas_preparing.specs.Runs.{status_of, Ends}
 use Rattle.oas_preparing.proofs.AnswerLemmas.{delivers, reports}

@@ -8,4 +8,4 @@ returns-in_err-layout g c =
     rw (p.1, p.2) (unkeyed _ c.in_err-layout.ensures)
 
 pub returns : goal.returns
-returns g c = keyed c.in_ok-layout.ensures c.cell_count.ensures.layout _ c.layout_key.ensures
+returns g c = keyed c.in_ok-layout.ensures _ c.layout_key.ensures

@@ -1,5 +1,5 @@
 use Rattle.std.proofs.Common.{rules}
-use Rattle.oas_explain.proofs.oas_command_proofs.MessageLemmas.{closed, said, same_name}
+use Rattle.oas_explain.proofs.MessageLemmas.{closed, said, same_name}
 use Rattle.oas_preparing.proofs.RunLemmas.{ended}
 use Rattle.oas_preparing.proofs.runs.run_prepare.Goals as goal
 

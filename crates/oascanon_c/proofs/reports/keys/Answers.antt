@@ -1,5 +1,5 @@
 use Rattle.std.proofs.Common.{refl}
-use Rattle.oas_prepare.specs.oas_canon.CellKeys.{cell_key_lines}
+use Rattle.oas_prepare.specs.CellKeys.{cell_key_lines}
 use Rattle.oascanon_c.proofs.ReadingLemmas.{text_told}
 use Rattle.oascanon_c.proofs.reports.keys.Goals as goal
 

@@ -1,5 +1,5 @@
 use Rattle.std.proofs.Common.{refl}
-use Rattle.oas_listing.specs.Listing.{listing}
+use Rattle.oas_prepare.specs.Listing.{listing}
 use Rattle.oascanon_c.proofs.ReadingLemmas.{text_told}
 use Rattle.oascanon_c.proofs.reports.list.Goals as goal
 

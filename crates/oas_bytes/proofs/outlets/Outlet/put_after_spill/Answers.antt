@@ -1,7 +1,7 @@
 use Rattle.std.proofs.Common.{refl, ◌∷◌, []}
 use Rattle.std.proofs.lemmas.Result.{err_from_is_err_and}
 use Rattle.oas_bytes.proofs.WritingLemmas.{Puts-then, front_fails}
-use Rattle.oas_bytes.proofs.OutletLemmas.{byte_kept}
+use Rattle.oas_bytes.proofs.OutletLemmas.{bytes_kept}
 use Rattle.oas_bytes.proofs.outlets.Outlet.put_after_spill.Goals as goal
 
 pub returns-in_err-spill-clause-writes : goal.returns-in_err-spill-clause-writes
@@ -13,4 +13,4 @@ pub returns-clause-writes : goal.returns-clause-writes
 returns-clause-writes g c =
     let done = c.in_ok-spill.ensures.all in
     Puts-then _ _ _ _ _ [] (c.args.byte ∷ []) c.in_ok-spill.ensures.writes
-    (byte_kept g.W.Device.calls c.spill.new.self _ refl done.works c.args.byte refl c.push.ensures refl done.works)
+    (bytes_kept g.W.Device.calls c.spill.new.self _ refl done.works (c.args.byte ∷ []) refl c.push.ensures refl done.works)

@@ -1,8 +1,8 @@
 use Rattle.std.specs.Prelude.{IfOk, IfErr}
 use Rattle.std.proofs.Common.{◌≡◌, List, ℕ, Ok, ap, subst}
 use Rattle.oas_num.specs.Written.{IsWritten, IsCutOff}
-use Rattle.oas_layout.specs.Contents.{Contents, meaning_of}
-use Rattle.oas_markers.specs.oas_difference.Options.{difference_by}
+use Rattle.oas_elements.specs.Contents.{Contents, meaning_of}
+use Rattle.oas_markers.specs.DifferenceOptions.{difference_by}
 use Rattle.oas_command.specs.Diff.{diff_text}
 use Rattle.oas_command.proofs.DiffLemmas.{differs}
 use Rattle.oas_command.proofs.RunLemmas.{result_after, delivers, tells}

@@ -1,5 +1,5 @@
 use Rattle.std.proofs.Common.{Ok, Err, refl}
-use Rattle.oas_layout.specs.Contents.{Contents, meaning_of}
+use Rattle.oas_elements.specs.Contents.{Contents, meaning_of}
 use Rattle.oas_canon.specs.CellKeys.{cell_key_lines}
 use Rattle.oas_command.proofs.RunLemmas.{result_after, done, delivers, tells}
 use Rattle.oas_command.proofs.runs.keys.keys_telling.Goals as goal
@@ -7,14 +7,14 @@ use Rattle.oas_command.proofs.runs.keys.keys_telling.Goals as goal
 pub returns-in-Ok : goal.returns-in-Ok
 returns-in-Ok g c =
     let layout = c.in-Ok.layout in
-    let written = c.write_compact_cell_keys-written.result in
-    let wrote = c.write_compact_cell_keys-written.ensures in (
+    let written = c.write_cell_keys-written.result in
+    let wrote = c.write_cell_keys-written.ensures in (
       Ok layout,
       result_after {T = Contents} layout written,
       done {T = Contents} layout written _ c.conclude.ensures.answers,
       c.in-Ok.ensures,
       delivers {T = Contents} layout g.W.Device.calls (λ (l : Contents). cell_key_lines (meaning_of l)) written c.args.out.now
-          c.write_compact_cell_keys-written.new.writer wrote.written wrote.refused,
+          c.write_cell_keys-written.new.writer wrote.written wrote.refused,
       tells {T = Contents} layout g.K.Sink.given g.K.Sink.failures c.args.name.now c.args.told.now written c.conclude.new.told c.conclude.ensures.ends,
     )
 

@@ -2,9 +2,9 @@ use Rattle.std.specs.Prelude.{IfOk, IfErr}
 use Rattle.std.proofs.Common.{◌≡◌, List, ℕ, Result, Ok, Err, ap, subst, refl}
 use Rattle.oas_num.specs.declared.refusals.Refusal.{Refusal}
 use Rattle.oas_num.specs.Written.{IsWritten, IsCutOff}
-use Rattle.oas_layout.specs.Contents.{Contents, meaning_of}
-use Rattle.oas_markers.specs.oas_difference.Options.{difference_by}
-use Rattle.oas_markers.specs.oas_difference.Choice.{chosen}
+use Rattle.oas_elements.specs.Contents.{Contents, meaning_of}
+use Rattle.oas_markers.specs.DifferenceOptions.{difference_by}
+use Rattle.oas_markers.specs.Choice.{chosen}
 use Rattle.oas_markers.specs.Markers.{markers}
 use Rattle.oas_markers.specs.Written.{IsMarked, IsMarkedUpTo}
 use Rattle.oas_command.specs.Diff.{diff_text}

@@ -1,6 +1,6 @@
 use Rattle.std.proofs.Common.{rules, ◌≡◌, false, None, Some}
 use Rattle.oas_shape.specs.Steps.{still}
-use Rattle.oas_layout.specs.declared.element.Element.TheVariants as element
+use Rattle.oas_elements.specs.declared.element.Element.TheVariants as element
 use Rattle.oas_drawing.specs.declared.drawn.Drawn.{Drawn}
 use Rattle.oas_drawing.specs.declared.drawn.Drawn.TheVariants.{Named}
 use Rattle.oas_drawing.specs.declared.kinds.Kind.TheVariants.{Rectangle}

@@ -1,4 +1,4 @@
-use Rattle.oas_layout.specs.declared.element.Element.TheVariants.{Placement}
+use Rattle.oas_elements.specs.declared.element.Element.TheVariants.{Placement}
 use Rattle.oas_form.proofs.FollowingLemmas.{draws_next}
 use Rattle.oas_form.proofs.judging.FormJudge.place_next.Goals as goal
 

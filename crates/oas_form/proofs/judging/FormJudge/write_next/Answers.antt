@@ -1,4 +1,4 @@
-use Rattle.oas_layout.specs.declared.element.Element.TheVariants.{Text}
+use Rattle.oas_elements.specs.declared.element.Element.TheVariants.{Text}
 use Rattle.oas_form.proofs.FollowingLemmas.{draws_next}
 use Rattle.oas_form.proofs.judging.FormJudge.write_next.Goals as goal
 

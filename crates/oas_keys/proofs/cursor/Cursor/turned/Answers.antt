@@ -1,5 +1,5 @@
 use Rattle.std.proofs.Common.{◌≡◌, ◌+◌, ◌*◌, ◌∷◌, sym, ◌∙◌}
-use Rattle.oas_layout.specs.Element.{turn_count}
+use Rattle.oas_elements.specs.Element.{turn_count}
 use Rattle.oas_keys.specs.Keys.{flip_count}
 use Rattle.oas_keys.proofs.cursor.Cursor.turned.Goals as goal
 

@@ -1,9 +1,11 @@
-use Rattle.std.proofs.Common.{subst, rules}
-use Rattle.oas_layout.specs.Contents.{IsLayout}
+use Rattle.std.proofs.Common.{◌≡◌, length, ap, ◌∙◌, rules}
+use Rattle.oas_elements.specs.Contents.{Contents}
+use Rattle.oas_layout.specs.Held.{cells_held}
+use Rattle.oas_layout.specs.Laws.HeldLaws.{cells_keys}
+use Rattle.oas_layout.proofs.HeldLemmas.{length-keyed_cells}
 use Rattle.oas_layout.proofs.layout.Layout.cell_count.Goals as goal
 
-pub returns-clause-layout : goal.returns-clause-layout
-returns-clause-layout c = subst IsLayout c.self.view_is c.self.invariant.layout
-
-pub returns-clause-count : goal.returns-clause-count
-returns-clause-count c = search rules
+pub returns : goal.returns
+returns c =
+    let count : c.len.result ≡ length c.self.inside.cells.entries = search rules in
+    count ∙ ap length (cells_keys c.self.inside.held) ∙ length-keyed_cells (cells_held c.self.inside.held) ∙ ap (λ (v : Contents). length v.cells) c.self.view_is

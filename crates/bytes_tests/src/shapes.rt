@@ -1,0 +1,6 @@
+//! Point lists and repetitions, by their bytes, and where memory runs out.
+
+mod lists;
+mod memory;
+mod repetitions;
+mod rows;

@@ -1,0 +1,4 @@
+//! Runs of keys, and a store that takes keys in any order.
+
+mod orders;
+mod runs;

@@ -1,5 +1,0 @@
-use Rattle.oas_canon.proofs.RunKeyLemmas.{LinesAfter}
-use Rattle.oas_canon.proofs.run_keys.put_lines.Given as goal
-
-abbrev pub invariant-loop-name : goal.invariant-loop-name
-invariant-loop-name g l = LinesAfter g.K.Sink.given g.K.Sink.failures l.layout l.name-iterator l.fn.sink l.sink

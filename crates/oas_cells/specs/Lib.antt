@@ -1,0 +1,12 @@
+pub use Rattle.oas_keys.specs.Keys
+pub use Rattle.oas_keys.specs.Laws.FieldLaws
+pub use Rattle.oas_keys.specs.Laws.KeyLaws
+pub use Rattle.oas_keys.specs.Reading
+pub use Rattle.oas_keys.specs.declared.points.SpelledPoints
+pub use Rattle.oas_run_store.specs.Laws.TallyLaws
+pub use Rattle.oas_run_store.specs.Tally
+pub mod Short
+pub mod Compact
+pub mod Weighing
+pub mod Placing
+pub mod Laws

@@ -1,0 +1,253 @@
+//! What the records of a CELL draw: kept as keys, or waiting for names.
+
+ghost use Rattle.std.specs.Prelude.{◌≡◌, ◌+◌, ◌<◌, ◌^◌, [], ◌∷◌, List, false, replicate, OnOk, OnErr, IfOk, IfErr};
+ghost use Rattle.std.specs.Cmp.Lexicographic.{slice_cmp};
+ghost use Rattle.std.specs.List.{AllByRecursion};
+ghost use Rattle.std.specs.Ordering.{nat_cmp};
+ghost use Rattle.oas_num.specs.declared.refusals.Why.TheVariants.{Memory};
+ghost use Rattle.oas_elements.specs.Sound.{IsSound};
+ghost use Rattle.oas_runs.specs.Runs.{IsRun};
+ghost use Rattle.oas_reader.specs.Drawn.{Drawn as SomeDrawn};
+ghost use Rattle.oas_reader.specs.Drawn.TheVariants.{Named as OneNamed};
+ghost use Rattle.oas_reader.specs.DrawnOnce.TheVariants.{Placement as OnePlacement, Text as OneText};
+ghost use Rattle.oas_reader.specs.Named.{drawn_once};
+ghost use Rattle.oas_reader.specs.Meaning.{elements_by_name};
+ghost use Rattle.oas_reader.specs.Finish.{IsFit};
+ghost use Rattle.oas_reader.specs.Stores.{Draws};
+ghost use Rattle.oas_cells.specs.Compact.{compact_store, is_named, AreKeys, IsCompact, Keeps};
+ghost use Rattle.oas_cells.specs.Laws.CompactLaws.{kept_in_any_order};
+ghost use Rattle.oas_cells.specs.Placing.{MeansElements};
+
+use crate::elements::ElementStore;
+use crate::placing::place_all;
+use crate::profiles::KeptBy;
+use crate::waiting::Waiting;
+use oas_elements::{Element, Turns};
+use oas_num::{Label, Name, Why};
+use oas_reader::oas_drawing::{Drawn, DrawnOnce};
+use oas_reader::{CellStore, NameTable, Weighed, head_weight};
+use oas_record::{CellRef, TextRef};
+use oas_runs::Run;
+use std::alloc::{AllocError, Global};
+use std::marker::{Model, PhantomData};
+
+/// A CELL, by its name or a number, and what its records draw: elements in their kept forms, as keys with counts, and apart
+/// from them what is drawn by numbers.
+#[derive(Drop)]
+pub struct CompactCell<P: KeptBy> {
+    cell: CellRef,
+    /// How many elements were drawn.
+    count: u64,
+    /// The weight of what was drawn as long as numbers have no names; at most what 64 bits hold, which exceeds all limits.
+    weight: u64,
+    kept: ElementStore,
+    waiting: Waiting,
+    by: PhantomData<P>,
+}
+
+impl<P: KeptBy> Model for CompactCell<P> {
+    ghost use Rattle.std.specs.Prelude.{◌+◌, ◌≤◌};
+    ghost use Rattle.oas_elements.specs.Laws.BagLaws.{total};
+    ghost use Rattle.oas_cells.specs.Compact.{Compact};
+
+    ghost Value = { Compact };
+
+    ghost view = { λ a. record { cell = a.cell; count = a.count; weight = a.weight; keys = a.kept; waiting = a.waiting } };
+
+    ghost invariant = { λ a. total (λ _. 1) a.kept + total (λ _. 1) a.waiting ≤ a.count };
+}
+
+impl<P: KeptBy> CompactCell<P> {
+    /// The run of the keys of all elements by the tables of the whole file, in their kept forms; or out of memory. What is
+    /// drawn by a number that has no name isn't among them.
+    pub fn into_run(self, names: &NameTable<Name>, strings: &NameTable<Label>) -> Result<Run, Why>
+        requires { IsCompact P.profile self }
+        ensures run { IfOk result (λ run. IsRun (slice_cmp nat_cmp) run) }
+        ensures keys { IfOk result (λ run. AreKeys P.profile run) }
+        ensures means { (ds : List SomeDrawn) → Keeps P.profile self ds → IfOk result (λ run. MeansElements P.profile run (elements_by_name names.now.named strings.now.named ds)) }
+        ensures sound { (ds : List SomeDrawn) → Keeps P.profile self ds → IfOk result (λ run. AllByRecursion IsSound (elements_by_name names.now.named strings.now.named ds)) }
+        ensures err { IfErr result (λ why. why ≡ Memory) }
+    {
+        let CompactCell {
+            mut kept,
+            waiting,
+            ..
+        } = self;
+        place_all(P::profile(), &mut kept, waiting, names, strings)?;
+        match kept.close() {
+            Ok(run) => Ok(run),
+            Err(_) => Err(Why::Memory),
+        }
+    }
+
+    /// Draws an element this many more times, in its kept form.
+    fn keep(&mut self, element: Element, times: u64) -> Result<(), AllocError>
+        requires some { 0 < times }
+        requires fit { IsFit (OneNamed element) }
+        requires room { self.old.count + times < 2 ^ 64 }
+        ensures ok { OnOk result (Draws (compact_store P.profile) self.old (replicate times (OneNamed element)) self.new) }
+        ensures err { OnErr result (self.new ≡ self.old) }
+    {
+        let weight = element.weight().saturating_mul(times);
+        self.kept.add(P::profile(), &element, times)?;
+        self.count += times;
+        self.weight = self.weight.saturating_add(weight);
+        Ok(())
+    }
+
+    /// Draws a placement once more, without copying its cell's name.
+    fn draw_placement(
+        &mut self,
+        cell: &CellRef,
+        x: i64,
+        y: i64,
+        turns: Turns,
+        flip: bool,
+    ) -> Result<(), AllocError>
+        requires fit { IsFit (drawn_once (OnePlacement cell x y turns flip)) }
+        requires room { self.old.count + 1 < 2 ^ 64 }
+        ensures ok { OnOk result (Draws (compact_store P.profile) self.old (drawn_once (OnePlacement cell.entry x y turns flip) ∷ []) self.new) }
+        ensures err { OnErr result (self.new ≡ self.old) }
+    {
+        match cell {
+            CellRef::Name(name) => {
+                self.kept.add_placement(name, x, y, turns, flip, 1)?;
+                self.count += 1;
+                let weight = 1 + name.as_bytes().len() as u64;
+                self.weight = self.weight.saturating_add(weight);
+                Ok(())
+            }
+            CellRef::Number(number) => {
+                let placement = Drawn::PlacementBy {
+                    number: *number,
+                    x,
+                    y,
+                    turns,
+                    flip,
+                };
+                self.wait(placement, 1)
+            }
+        }
+    }
+
+    /// Draws a text once more, without copying its string.
+    fn draw_text(
+        &mut self,
+        string: &TextRef,
+        textlayer: u64,
+        texttype: u64,
+        x: i64,
+        y: i64,
+    ) -> Result<(), AllocError>
+        requires fit { IsFit (drawn_once (OneText string textlayer texttype x y)) }
+        requires room { self.old.count + 1 < 2 ^ 64 }
+        ensures ok { OnOk result (Draws (compact_store P.profile) self.old (drawn_once (OneText string.entry textlayer texttype x y) ∷ []) self.new) }
+        ensures err { OnErr result (self.new ≡ self.old) }
+    {
+        match string {
+            TextRef::Label(label) => {
+                self.kept.add_text(label, textlayer, texttype, x, y, 1)?;
+                self.count += 1;
+                let weight = 1 + label.as_bytes().len() as u64;
+                self.weight = self.weight.saturating_add(weight);
+                Ok(())
+            }
+            TextRef::Number(number) => {
+                let text = Drawn::TextBy {
+                    number: *number,
+                    textlayer,
+                    texttype,
+                    x,
+                    y,
+                };
+                self.wait(text, 1)
+            }
+        }
+    }
+
+    /// Draws something by a number this many more times.
+    fn wait(&mut self, drawn: Drawn, times: u64) -> Result<(), AllocError>
+        requires some { 0 < times }
+        requires fit { IsFit drawn }
+        requires unnamed { is_named drawn ≡ false }
+        requires room { self.old.count + times < 2 ^ 64 }
+        ensures ok { OnOk result (Draws (compact_store P.profile) self.old (replicate times drawn) self.new) }
+        ensures err { OnErr result (self.new ≡ self.old) }
+    {
+        self.waiting.add(drawn, times)?;
+        self.count += times;
+        self.weight = self.weight.saturating_add(times);
+        Ok(())
+    }
+}
+
+impl<P: KeptBy> CellStore for CompactCell<P> {
+    ghost store = { compact_store P.profile };
+
+    ghost alike = { kept_in_any_order P.profile };
+
+    fn begin(alloc: Global, cell: CellRef) -> CompactCell<P> {
+        CompactCell {
+            cell,
+            count: 0,
+            weight: 0,
+            kept: ElementStore::new(alloc),
+            waiting: Waiting::new(alloc),
+            by: PhantomData,
+        }
+    }
+
+    fn cell(&self) -> &CellRef {
+        &self.cell
+    }
+
+    fn rest(&mut self) {
+        self.kept.rest();
+        self.waiting.rest();
+    }
+
+    fn draw(&mut self, drawn: Drawn, times: u64) -> Result<(), AllocError> {
+        match named_element(drawn) {
+            Ok(element) => self.keep(element, times),
+            Err(drawn) => self.wait(drawn, times),
+        }
+    }
+
+    fn draw_once(&mut self, _alloc: Global, drawn: &DrawnOnce<'_>) -> Result<(), AllocError> {
+        match drawn {
+            DrawnOnce::Placement {
+                cell,
+                x,
+                y,
+                turns,
+                flip,
+            } => self.draw_placement(cell, *x, *y, *turns, *flip),
+            DrawnOnce::Text {
+                string,
+                textlayer,
+                texttype,
+                x,
+                y,
+            } => self.draw_text(string, *textlayer, *texttype, *x, *y),
+        }
+    }
+}
+
+impl<P: KeptBy> Weighed for CompactCell<P> {
+    fn weight_with(&self, names: &NameTable<Name>, strings: &NameTable<Label>) -> Option<u64> {
+        let head = head_weight(&self.cell, names)?;
+        let waiting = self.waiting.weight_by(names, strings)?;
+        Some(head.saturating_add(self.weight.saturating_add(waiting)))
+    }
+}
+
+/// The element, where it isn't drawn by a number.
+fn named_element(drawn: Drawn) -> Result<Element, Drawn>
+    ensures named { IfOk result (λ e. drawn ≡ OneNamed e) }
+    ensures numbered { IfErr result (λ d. (d ≡ drawn) × (is_named drawn ≡ false)) }
+{
+    match drawn {
+        Drawn::Named(element) => Ok(element),
+        by_number => Err(by_number),
+    }
+}

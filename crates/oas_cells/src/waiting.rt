@@ -1,0 +1,110 @@
+//! What is drawn by a number, whose name may come later.
+
+ghost use Rattle.std.specs.Prelude.{◌≡◌, ◌+◌, ◌<◌, ◌^◌, [], unwrap_or, OnOk, OnErr, IfSome};
+ghost use Rattle.std.specs.BTreeMap.{get, insert_entry, IsOrdered, IsUnchanged};
+ghost use Rattle.oas_elements.specs.Laws.BagLaws.{total};
+ghost use Rattle.oas_reader.specs.DrawnLaws.{derived_cmp};
+ghost use Rattle.oas_cells.specs.Compact.{WaitsMore};
+ghost use Rattle.oas_cells.specs.Short.{drawn_of};
+ghost use Rattle.oas_cells.specs.Weighing.{waiting_weight};
+
+use crate::chunks::Chunks;
+use crate::short::Short;
+use crate::weighing::both_weights;
+use oas_num::{Label, Name};
+use oas_reader::NameTable;
+use oas_reader::oas_drawing::Drawn;
+use std::alloc::{AllocError, Global};
+use std::collections::BTreeMap;
+use std::marker::Model;
+
+/// What waits for names; contracts see the list of it with counts. Most of it is in chunks, as it came. The map has what is
+/// drawn often, or doesn't fit there; it is ordered, so that no choice of numbers makes it slow.
+#[derive(Drop)]
+pub(crate) struct Waiting {
+    pub(crate) chunks: Chunks,
+    pub(crate) others: BTreeMap<Drawn, u64>,
+}
+
+impl Model for Waiting {
+    ghost use Rattle.std.specs.Prelude.{List, ℕ, ◌++◌};
+    ghost use Rattle.oas_reader.specs.Drawn.{Drawn};
+    ghost use Rattle.oas_reader.specs.Held.{IsHeld};
+
+    ghost Value = { List (Drawn × ℕ) };
+
+    ghost view = { λ a. a.chunks ++ a.others.entries };
+
+    ghost invariant = { λ a. IsHeld a.others.entries };
+}
+
+impl Waiting {
+    /// Nothing waits.
+    pub(crate) fn new(alloc: Global) -> Waiting
+        ensures { result ≡ [] }
+    {
+        Waiting {
+            chunks: Chunks::new(alloc),
+            others: BTreeMap::new(alloc),
+        }
+    }
+
+    /// The bytes of the names of all that waits, capped to 64 bits; None where a number has no name.
+    pub(crate) fn weight_by(
+        &self,
+        names: &NameTable<Name>,
+        strings: &NameTable<Label>,
+    ) -> Option<u64>
+        ensures { result ≡ waiting_weight names.now.named strings.now.named self.now }
+    {
+        both_weights(&self.chunks, &self.others, names, strings)
+    }
+
+    /// Gives back memory that is idle as long as nothing more waits.
+    pub(crate) fn rest(&mut self)
+        ensures { self.new ≡ self.old }
+    {
+        self.chunks.rest();
+    }
+
+    /// Adds something that waits, this many more times. If out of memory it adds nothing.
+    pub(crate) fn add(&mut self, drawn: Drawn, times: u64) -> Result<(), AllocError>
+        requires some { 0 < times }
+        requires room { total (λ _. 1) self.old + times < 2 ^ 64 }
+        ensures ok { OnOk result (WaitsMore self.old drawn times self.new) }
+        ensures err { OnErr result (self.new ≡ self.old) }
+    {
+        let Some(short) = short_once(&drawn, times) else {
+            count_up(&mut self.others, drawn, times)?;
+            return Ok(());
+        };
+        self.chunks.push(short)?;
+        Ok(())
+    }
+}
+
+/// Something in few bytes, if it is drawn once and fits.
+fn short_once(drawn: &Drawn, times: u64) -> Option<Short>
+    ensures is { IfSome result (λ s. drawn_of s ≡ drawn.now) }
+    ensures once { IfSome result (λ s. times ≡ 1) }
+{
+    if times == 1 {
+        return Short::of(drawn);
+    }
+    None
+}
+
+/// Adds to the count of something, in one search for its place, or changes nothing.
+fn count_up(held: &mut BTreeMap<Drawn, u64>, drawn: Drawn, times: u64) -> Result<(), AllocError>
+    requires { unwrap_or (get derived_cmp held.old drawn) 0 + times < 2 ^ 64 }
+    ensures entries { OnOk result (held.new.entries ≡ insert_entry derived_cmp held.old.entries drawn (unwrap_or (get derived_cmp held.old drawn) 0 + times)) }
+    ensures ordered { OnOk result (IsOrdered derived_cmp held.new) }
+    ensures err { OnErr result (IsUnchanged held.old held.new) }
+{
+    let entry = match held.entry(drawn) {
+        Ok(entry) => entry,
+        Err(_) => return Err(AllocError),
+    };
+    *entry.or_insert(0) += times;
+    Ok(())
+}

@@ -1,5 +1,0 @@
-use Rattle.std.proofs.Common.{rules}
-use Rattle.oas_corners.proofs.corners.Corners.as_slice.Goals as goal
-
-pub returns-in-Triangle : goal.returns-in-Triangle
-returns-in-Triangle c = search rules

@@ -1,4 +1,0 @@
-pub mod Corners
-pub mod Deltas
-pub mod Named
-pub mod Sides

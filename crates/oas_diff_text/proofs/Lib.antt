@@ -1,0 +1,4 @@
+pub mod EntryLemmas
+pub mod EntryLengths
+pub mod FieldLemmas
+pub mod MicronLemmas

@@ -1,0 +1,11 @@
+use Rattle.std.proofs.lemmas.Result.{err_from_is_err_and}
+use Rattle.oas_num.proofs.PuttingLemmas.{first, begins, fails_at, ends}
+use Rattle.oas_diff_text.proofs.entries.put_kind.Goals as goal
+
+pub returns-in_err-put_all : goal.returns-in_err-put_all
+returns-in_err-put_all g c =
+    let p = err_from_is_err_and c.from_residual.result c.from_residual.ensures.1 in
+    rw p.1 (fails_at _ (begins _ _) c.in_err-put_all.ensures)
+
+pub returns : goal.returns
+returns g c = ends _ _ (first _ c.in_ok-put_all.ensures) c.put_quoted.ensures

@@ -1,5 +1,0 @@
-use Rattle.std.proofs.Common.{rules}
-use Rattle.oas_difference.proofs.elements.Side.new.Goals as goal
-
-pub returns : goal.returns
-returns c = search rules

@@ -1,9 +1,0 @@
-use Rattle.std.proofs.Common.{◌≡◌, length}
-use Rattle.oas_difference.specs.Held.{elements_shown}
-use Rattle.oas_difference.proofs.shown.first_shown.Given as goal
-
-abbrev pub invariant-loop-pair : goal.invariant-loop-pair
-invariant-loop-pair l = elements_shown l.layers l.fn.elements ≡ elements_shown l.layers l.elements
-
-abbrev pub decreases-loop-pair : goal.decreases-loop-pair
-decreases-loop-pair l = length l.elements

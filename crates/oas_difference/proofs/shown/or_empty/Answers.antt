@@ -1,8 +1,0 @@
-use Rattle.std.proofs.Common.{List, ℕ, sym, subst}
-use Rattle.oas_layout.specs.declared.element.Element.{Element}
-use Rattle.oas_layout.specs.Bag.{IsTally}
-use Rattle.oas_difference.proofs.Chosen.{empty_tally}
-use Rattle.oas_difference.proofs.shown.or_empty.Goals as goal
-
-pub returns-in-Some-None-clause-tally : goal.returns-in-Some-None-clause-tally
-returns-in-Some-None-clause-tally c = subst (λ (es : List (Element × ℕ)). IsTally es) (sym c.none.ensures) empty_tally

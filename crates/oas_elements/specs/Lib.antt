@@ -1,0 +1,11 @@
+pub mod Ascending
+pub mod Bag
+pub mod Contents
+pub mod Element
+pub mod Grid
+pub mod Limits
+pub mod Meaning
+pub mod Same
+pub mod Sound
+pub mod Weight
+pub mod Laws

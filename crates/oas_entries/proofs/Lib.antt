@@ -1,4 +1,0 @@
-pub mod BlockLemmas
-pub mod EntryLemmas
-pub mod MergeLemmas
-pub mod OrderLemmas

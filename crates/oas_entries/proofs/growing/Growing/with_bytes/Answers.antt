@@ -1,5 +1,0 @@
-use Rattle.std.proofs.Common.{rules}
-use Rattle.oas_entries.proofs.growing.Growing.with_bytes.Goals as goal
-
-pub returns : goal.returns
-returns c = search rules

@@ -1,7 +1,0 @@
-use Rattle.std.proofs.Common.{◌∙◌}
-use Rattle.oas_entries.specs.Blocks.{joined}
-use Rattle.oas_entries.proofs.BlockLemmas.{front-nil}
-use Rattle.oas_entries.proofs.run.Run.is_empty.Goals as goal
-
-pub returns-clause-left : goal.returns-clause-left
-returns-clause-left c = λ f e. c.is_empty.ensures.left f (front-nil c.self.inside.first (joined c.self.inside.rest.items) (c.self.view_is ∙ e))

@@ -1,5 +1,0 @@
-use Rattle.oas_foreign.proofs.DrawLemmas.{record_same}
-use Rattle.oas_foreign.proofs.laws.drawing.Goals as goal
-
-pub returns : goal.returns
-returns c = λ s reader standard r a k h. record_same s reader standard a r k h

@@ -1,7 +1,0 @@
-use Rattle.std.proofs.Common.{refl}
-use Rattle.oas_foreign.specs.Tracked.{fresh}
-use Rattle.oas_foreign.proofs.LawLemmas.{all_plain}
-use Rattle.oas_foreign.proofs.laws.profile_alone.Goals as goal
-
-pub returns : goal.returns
-returns c = λ rs. all_plain fresh rs refl

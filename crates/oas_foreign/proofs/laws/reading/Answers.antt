@@ -1,5 +1,0 @@
-use Rattle.oas_foreign.proofs.ReadLemmas.{record_read}
-use Rattle.oas_foreign.proofs.laws.reading.Goals as goal
-
-pub returns : goal.returns
-returns c = λ s reader standard r a k. record_read s reader standard a r k

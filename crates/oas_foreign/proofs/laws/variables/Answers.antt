@@ -1,5 +1,0 @@
-use Rattle.oas_foreign.proofs.ModalLemmas.{record_kept}
-use Rattle.oas_foreign.proofs.laws.variables.Goals as goal
-
-pub returns : goal.returns
-returns c = λ s m r k near. record_kept s m k r near

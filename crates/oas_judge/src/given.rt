@@ -1,0 +1,123 @@
+//! A file by its bytes where these are canonical, and by its layout otherwise.
+ghost use Rattle.std.specs.Prelude.{◌≡◌, [], IsTrue, IsSomeAnd};
+ghost use Rattle.oas_judge.specs.FileJudges.{holds, IsJudging};
+ghost use Rattle.oas_judge.specs.Given.{ReadsGiven, Judges};
+
+use crate::joined::read_joined;
+use crate::judge::FileJudge;
+use crate::keeping::Start;
+use crate::kept::KeptSource;
+use crate::parts::{Part, keep_parts};
+use oas_elements::{Limits, Profile};
+use oas_num::{Refusal, Source, Why};
+use oas_record::{Head, read_head};
+use oas_writing::{CountedCell, Layout, Reader, find_end_of_input};
+use std::alloc::Global;
+use std::marker::Brand;
+
+/// An accepted file.
+#[derive(Drop)]
+pub enum Given {
+    /// It is canonical, and these are its bytes.
+    Canonical(Vec<u8>),
+    /// This is its layout.
+    Layout(Layout),
+}
+
+/// What was judged of an accepted file or of its first part.
+#[derive(Clone, Copy)]
+struct Verdict {
+    /// Whether it is a whole file, and canonical.
+    canonical: bool,
+    /// The offset of the record that was read last, or of END.
+    at: u64,
+}
+
+/// The judge of a file that begins with these bytes. Where they aren't kept it doesn't hold, since no head has no bytes.
+fn judge_behind(alloc: Global, profile: Profile, head: &Head, start: Option<&[u8]>) -> FileJudge
+    ensures { IsTrue (holds result) → IsSomeAnd start.entry (λ bytes. IsJudging profile result head.now bytes.now []) }
+{
+    match start {
+        Some(bytes) => FileJudge::of_front(alloc, profile, head, bytes),
+        None => FileJudge::of_front(alloc, profile, head, &[]),
+    }
+}
+
+/// Accepts and judges a file up to its end, or up to a record at which it isn't known to be canonical.
+fn judge_kept<S: Source, K: Start>(
+    alloc: Global,
+    source: &mut KeptSource<'_, S, K>,
+    limits: Limits,
+    profile: Profile,
+) -> Result<Verdict, Refusal>
+    requires { S.script source.old.source.now ≡ K.script }
+    ensures { Judges limits profile K.script result (S.script source.new.source.now) }
+{
+    let first = source.at();
+    let head = read_head(alloc, source)?;
+    let mut judge = judge_behind(alloc, profile, &head, source.since(first));
+    let mut reader: Reader<CountedCell> = Reader::new(alloc, head.unit, limits, profile);
+    let (part, at) = keep_parts(alloc, source, head, &mut reader, &mut judge)?;
+    let Part::End(canonical) = part else {
+        return Ok(Verdict {
+            canonical: false,
+            at,
+        });
+    };
+    find_end_of_input(source)?;
+    reader.finish_counting(at)?;
+    Ok(Verdict { canonical, at })
+}
+
+/// The same as [`read_given`], for the source that is named. It hands the borrow back, so that its lender knows it as its own.
+fn read_given_named<'a, S: Source, K: Start>(
+    alloc: Global,
+    source: &'a mut S,
+    limits: Limits,
+    profile: Profile,
+) -> (Result<Given, Refusal>, &'a mut S)
+    requires named { source.ghost_name ≡ K.name }
+    requires starts { S.script source.old ≡ K.script }
+    ensures same { result.1.ghost_name ≡ source.entry.ghost_name }
+    ensures read { ReadsGiven limits profile K.script result.0 (S.script result.1.now) }
+{
+    let mut keeping: KeptSource<'a, S, K> = KeptSource::new(alloc, source);
+    let judged = judge_kept(alloc, &mut keeping, limits, profile);
+    let (source, kept) = keeping.finish();
+    let verdict = match judged {
+        Ok(verdict) => verdict,
+        Err(refusal) => return (Err(refusal), source),
+    };
+    let Some(bytes) = kept else {
+        let refusal = Refusal {
+            at: verdict.at,
+            why: Why::Memory,
+        };
+        return (Err(refusal), source);
+    };
+    if verdict.canonical {
+        return (Ok(Given::Canonical(bytes)), source);
+    }
+    let (read, source) = read_joined::<S, Brand>(
+        alloc, &bytes, source, limits, profile, verdict.at,
+    );
+    (read.map(Given::Layout), source)
+}
+
+/// Reads all that a source gives. Returns the bytes where these are a canonical form by the profile, and otherwise the layout,
+/// kept by the profile.
+///
+/// The file is judged as it is read, and its bytes are kept, until a record isn't as in a canonical file; only then is the
+/// layout read, from these bytes and from what the source still gives. A file is refused as
+/// [`read_layout`](oas_writing::read_layout) refuses it.
+pub fn read_given<S: Source>(
+    alloc: Global,
+    source: &mut S,
+    limits: Limits,
+    profile: Profile,
+) -> Result<Given, Refusal>
+    ensures { ReadsGiven limits profile (S.script source.old) result (S.script source.new) }
+{
+    let (read, _source) = read_given_named::<S, Brand>(alloc, source, limits, profile);
+    read
+}

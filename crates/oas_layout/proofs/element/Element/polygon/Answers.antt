@@ -1,5 +1,0 @@
-use Rattle.std.proofs.Common.{rules}
-use Rattle.oas_layout.proofs.element.Element.polygon.Goals as goal
-
-pub returns : goal.returns
-returns c = search rules

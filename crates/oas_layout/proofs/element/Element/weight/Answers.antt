@@ -1,5 +1,0 @@
-use Rattle.std.proofs.Common.{rules}
-use Rattle.oas_layout.proofs.element.Element.weight.Goals as goal
-
-pub returns-in-Polygon : goal.returns-in-Polygon
-returns-in-Polygon c = search rules

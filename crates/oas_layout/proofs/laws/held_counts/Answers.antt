@@ -1,5 +1,0 @@
-use Rattle.oas_layout.proofs.LawProofs.{apart, held}
-use Rattle.oas_layout.proofs.laws.held_counts.Goals as goal
-
-pub returns : goal.returns
-returns c = record { apart = apart; counts = held }

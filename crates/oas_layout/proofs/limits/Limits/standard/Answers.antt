@@ -1,5 +1,0 @@
-use Rattle.std.proofs.Common.{rules}
-use Rattle.oas_layout.proofs.limits.Limits.standard.Goals as goal
-
-pub returns : goal.returns
-returns c = search rules

@@ -1,4 +1,0 @@
-pub mod TameLemmas
-pub mod TameFields
-pub mod TameRecords
-pub mod LongLemmas

@@ -1,0 +1,5 @@
+pub mod SourceLemmas
+pub mod TameLemmas
+pub mod TameFields
+pub mod TameRecords
+pub mod LongLemmas

@@ -1,5 +1,0 @@
-use Rattle.oas_modal.proofs.Alike.{alike_meanings}
-use Rattle.oas_modal.proofs.laws.alike_cells.Goals as goal
-
-pub returns : goal.returns
-returns c = alike_meanings

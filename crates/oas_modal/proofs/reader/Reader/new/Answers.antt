@@ -1,5 +1,0 @@
-use Rattle.std.proofs.Common.{rules}
-use Rattle.oas_modal.proofs.reader.Reader.new.Goals as goal
-
-pub returns-clause-profile : goal.returns-clause-profile
-returns-clause-profile g c = search rules

@@ -1,9 +1,0 @@
-use Rattle.std.proofs.Common.{◌∙◌, rules}
-use Rattle.oas_names.proofs.WeightLemmas.{names_begin}
-use Rattle.oas_names.proofs.used.strings_weight.Goals as goal
-
-pub loop-number-init : goal.loop-number-init
-loop-number-init c = names_begin c.args.strings.now.named c.into_iter-number-iterator.result c.args.used (c.into_iter-number-iterator.ensures.into_iter_gives.0 ∙ c.used.view_is)
-
-pub loop-number-preserved : goal.loop-number-preserved
-loop-number-preserved c = search rules

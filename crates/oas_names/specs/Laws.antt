@@ -1,2 +1,0 @@
--- What follows from the definitions. Nothing here has to be trusted.
-pub mod NameLaws

@@ -1,0 +1,3 @@
+-- What follows from the definitions. Nothing here has to be trusted.
+pub mod NameLaws
+pub mod StoreLaws

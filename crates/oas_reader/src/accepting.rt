@@ -1,0 +1,106 @@
+//! What END refuses of the cells that were drawn, by the tables of the whole file.
+
+ghost use Rattle.std.specs.Prelude.{◌≡◌, ◌⊎◌, List, None, Some, OnOk, IfOk, IfErr, map};
+ghost use Rattle.std.specs.List.{AllByRecursion};
+ghost use Rattle.oas_num.specs.declared.refusals.Why.TheVariants.{Memory};
+ghost use Rattle.oas_reader.specs.Meaning.{DrawnCell, end_reason, has_twice, names_meant};
+ghost use Rattle.oas_reader.specs.Stores.{HoldCells};
+ghost use Rattle.oas_reader.specs.Weights.{all_weight};
+ghost use Rattle.oas_reader.specs.Counted.{counted_store};
+ghost use Rattle.oas_reader.specs.Parts.{Sound, cells};
+
+use crate::counted::CountedCell;
+use crate::meant::cell_meant;
+use crate::names::NameTable;
+use crate::parts::{Parts, all_cells};
+use crate::stores::{CellStore, Weighed};
+use oas_elements::Limits;
+use oas_num::{Label, Name, Why};
+use std::alloc::Global;
+use std::collections::BTreeSet;
+
+/// Accepts what is counted: exactly what END doesn't refuse.
+pub(crate) fn accept_end(parts: Parts<CountedCell>) -> Result<(), Why>
+    requires { Sound counted_store parts }
+    ensures ok { (ds : List DrawnCell) → HoldCells counted_store (cells parts) ds → OnOk result (end_reason parts.names.named parts.strings.named parts.limits ds ≡ None) }
+    ensures err { (ds : List DrawnCell) → HoldCells counted_store (cells parts) ds →
+        IfErr result (λ why. (why ≡ Memory) ⊎ (end_reason parts.names.named parts.strings.named parts.limits ds ≡ Some why)) }
+{
+    let Parts {
+        alloc,
+        limits,
+        names,
+        strings,
+        done,
+        cell,
+        ..
+    } = parts;
+    let Ok(cells) = all_cells(done, cell) else {
+        return Err(Why::Memory);
+    };
+    accept_cells(alloc, limits, &cells, &names, &strings)
+}
+
+/// Accepts cells by the tables of the whole file, or refuses them as END does: with `UnknownReference` where a number has no
+/// name, else with `DuplicateCell` where two cells have one name, else with `TooHeavy` where they weigh more with all names
+/// than the limits allow; or it fails with `Memory`.
+pub fn accept_cells<S: Weighed>(
+    alloc: Global,
+    limits: Limits,
+    cells: &[S],
+    names: &NameTable<Name>,
+    strings: &NameTable<Label>,
+) -> Result<(), Why>
+    requires { AllByRecursion S.store.IsSound cells.now }
+    ensures ok { (ds : List DrawnCell) → HoldCells S.store cells.now ds → OnOk result (end_reason names.now.named strings.now.named limits ds ≡ None) }
+    ensures err { (ds : List DrawnCell) → HoldCells S.store cells.now ds →
+        IfErr result (λ why. (why ≡ Memory) ⊎ (end_reason names.now.named strings.now.named limits ds ≡ Some why)) }
+{
+    let twice = names_twice(alloc, cells, names)?;
+    let Some(weight) = all_weight(cells, names, strings) else {
+        return Err(Why::UnknownReference);
+    };
+    if twice {
+        return Err(Why::DuplicateCell);
+    }
+    if weight > limits.weight() {
+        return Err(Why::TooHeavy);
+    }
+    Ok(())
+}
+
+/// The weight of all cells with all names, capped to 64 bits; None where a number has no name.
+fn all_weight<S: Weighed>(
+    cells: &[S],
+    names: &NameTable<Name>,
+    strings: &NameTable<Label>,
+) -> Option<u64>
+    requires { AllByRecursion S.store.IsSound cells.now }
+    ensures { (ds : List DrawnCell) → HoldCells S.store cells.now ds → result ≡ all_weight names.now.named strings.now.named ds }
+{
+    let mut weight = 0u64;
+    for cell in cells {
+        weight = weight.saturating_add(cell.weight_with(names, strings)?);
+    }
+    Some(weight)
+}
+
+/// Whether two cells have one name. The set is ordered, so that no choice of names makes it slow.
+fn names_twice<S: CellStore>(
+    alloc: Global,
+    cells: &[S],
+    names: &NameTable<Name>,
+) -> Result<bool, Why>
+    ensures twice { IfOk result (λ b. b ≡ has_twice (names_meant names.now.named (map S.store.cell cells.now))) }
+    ensures err { IfErr result (λ why. why ≡ Memory) }
+{
+    let mut seen = BTreeSet::new(alloc);
+    for cell in cells {
+        if let Some(name) = cell_meant(names, cell.cell()) {
+            if !seen.insert(name)? {
+                return Ok(true);
+            }
+        }
+    }
+    Ok(false)
+}

@@ -1,0 +1,135 @@
+//! What is counted of a CELL, where none of its elements is kept.
+
+ghost use Rattle.std.specs.Prelude.{◌≡◌, ◌+◌, ◌<◌, ◌^◌, OnOk, OnErr};
+ghost use Rattle.oas_drawing.specs.Named.{drawn_once};
+ghost use Rattle.oas_reader.specs.Counted.{counted_store, counted_weight, placed_more, written_more};
+ghost use Rattle.oas_reader.specs.Laws.StoreLaws.{counted_in_any_order};
+
+use crate::copying::weight_so_far;
+use crate::meant::head_weight;
+use crate::names::NameTable;
+use crate::stores::{CellStore, Weighed};
+use crate::used::{UsedNumbers, cells_weight, strings_weight};
+use oas_drawing::{Drawn, DrawnOnce};
+use oas_num::{Label, Name};
+use oas_record::{CellRef, TextRef};
+use std::alloc::{AllocError, Global};
+use std::marker::Model;
+
+/// A CELL, by its name or a number, and just what decides at END whether what its records draw is refused: how many elements
+/// there are, their weight, and how often each number is used. It needs memory for the numbers only.
+#[derive(Drop)]
+pub struct CountedCell {
+    pub(crate) cell: CellRef,
+    pub(crate) count: u64,
+    /// As long as numbers have no names; at most what 64 bits hold, which exceeds all limits.
+    pub(crate) weight: u64,
+    /// The numbers of cells, used by placements.
+    pub(crate) placed: UsedNumbers,
+    /// The numbers of text strings, used by texts.
+    pub(crate) written: UsedNumbers,
+}
+
+impl Model for CountedCell {
+    ghost use Rattle.std.specs.Prelude.{◌≤◌};
+    ghost use Rattle.oas_elements.specs.Laws.BagLaws.{total};
+    ghost use Rattle.oas_reader.specs.Counted.{Counted};
+
+    ghost Value = { Counted };
+
+    ghost view = { λ a. record { cell = a.cell; count = a.count; weight = a.weight; placed = a.placed; written = a.written } };
+
+    ghost invariant = { λ a. (total (λ _. 1) a.placed ≤ a.count) × (total (λ _. 1) a.written ≤ a.count) };
+}
+
+impl CountedCell {
+    /// Counts something that is drawn this many times, and the uses of its number, if it has one.
+    fn count_up(&mut self, drawn: &Drawn, times: u64) -> Result<(), AllocError>
+        requires { self.old.count + times < 2 ^ 64 }
+        ensures ok { OnOk result (self.new ≡ record self.old
+            { count = self.old.count + times; placed = placed_more drawn.now times self.old.placed; written = written_more drawn.now times self.old.written }) }
+        ensures err { OnErr result (self.new ≡ self.old) }
+    {
+        match drawn {
+            Drawn::Named(_) => {}
+            Drawn::PlacementBy { number, .. } => self.placed.add(*number, times)?,
+            Drawn::TextBy { number, .. } => self.written.add(*number, times)?,
+        }
+        self.count += times;
+        Ok(())
+    }
+
+    /// Counts something without a repetition, and the use of its number, if it has one.
+    fn count_once(&mut self, drawn: &DrawnOnce<'_>) -> Result<(), AllocError>
+        requires { self.old.count + 1 < 2 ^ 64 }
+        ensures ok { OnOk result (self.new ≡ record self.old
+            { count = self.old.count + 1; placed = placed_more (drawn_once drawn.now) 1 self.old.placed; written = written_more (drawn_once drawn.now) 1 self.old.written }) }
+        ensures err { OnErr result (self.new ≡ self.old) }
+    {
+        match drawn {
+            DrawnOnce::Placement {
+                cell: CellRef::Number(number),
+                ..
+            } => self.placed.add(*number, 1)?,
+            DrawnOnce::Text {
+                string: TextRef::Number(number),
+                ..
+            } => self.written.add(*number, 1)?,
+            _ => {}
+        }
+        self.count += 1;
+        Ok(())
+    }
+
+    /// Its weight with all names, from what is counted.
+    fn weight(&self, names: &NameTable<Name>, strings: &NameTable<Label>) -> Option<u64>
+        ensures { result ≡ counted_weight names.now.named strings.now.named self.now }
+    {
+        let head = head_weight(&self.cell, names)?;
+        let placed = cells_weight(&self.placed, names)?;
+        let written = strings_weight(&self.written, strings)?;
+        let drawn = self.weight.saturating_add(placed.saturating_add(written));
+        Some(head.saturating_add(drawn))
+    }
+}
+
+impl CellStore for CountedCell {
+    ghost store = { counted_store };
+
+    ghost alike = { counted_in_any_order };
+
+    fn begin(alloc: Global, cell: CellRef) -> CountedCell {
+        CountedCell {
+            cell,
+            count: 0,
+            weight: 0,
+            placed: UsedNumbers::new(alloc),
+            written: UsedNumbers::new(alloc),
+        }
+    }
+
+    fn cell(&self) -> &CellRef {
+        &self.cell
+    }
+
+    fn rest(&mut self) {}
+
+    fn draw(&mut self, drawn: Drawn, times: u64) -> Result<(), AllocError> {
+        self.count_up(&drawn, times)?;
+        let weight = weight_so_far(&drawn).saturating_mul(times);
+        self.weight = self.weight.saturating_add(weight);
+        Ok(())
+    }
+
+    fn draw_once(&mut self, _alloc: Global, drawn: &DrawnOnce<'_>) -> Result<(), AllocError> {
+        self.count_once(drawn)?;
+        self.weight = self.weight.saturating_add(drawn.weight());
+        Ok(())
+    }
+}
+
+impl Weighed for CountedCell {
+    fn weight_with(&self, names: &NameTable<Name>, strings: &NameTable<Label>) -> Option<u64> {
+        self.weight(names, strings)
+    }
+}

@@ -1,3 +1,0 @@
-mod PointLemmas
-mod CellLemmas
-mod AloneLemmas

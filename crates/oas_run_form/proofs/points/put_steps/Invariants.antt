@@ -1,5 +1,0 @@
-use Rattle.oas_run_form.proofs.PointLemmas.{StepsLeft}
-use Rattle.oas_run_form.proofs.points.put_steps.Given as goal
-
-abbrev pub invariant-loop-point : goal.invariant-loop-point
-invariant-loop-point g l = StepsLeft g.K.Sink.given g.K.Sink.failures l.fn.first l.fn.points l.point-iterator l.before l.fn.sink l.sink l.count

@@ -1,2 +1,0 @@
-mod PointLemmas
-mod CellLemmas

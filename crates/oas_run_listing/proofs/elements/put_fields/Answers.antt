@@ -1,9 +1,0 @@
-use Rattle.std.proofs.Common.{rules, ap, sym, ◌∙◌, w64}
-use Rattle.std.proofs.lemmas.Int.{to_z-of_z}
-use Rattle.oas_runs.specs.Shown.{element_of}
-use Rattle.oas_run_listing.proofs.elements.put_fields.Goals as goal
-
-pub returns-in-Path : goal.returns-in-Path
-returns-in-Path g c =
-    let is = sym c.show.ensures.element ∙ ap element_of c.in-Path.is in
-    rw is (simp (to_z-of_z w64 c.in-Path.start (search rules), to_z-of_z w64 c.in-Path.end (search rules)) at c.put_path.ensures)

@@ -1,1 +1,0 @@
-pub use Rattle.oas_runs.specs as oas_runs

@@ -1,0 +1,33 @@
+//! A store of keys, which are bytes, each with its count, in little more memory than their bytes.
+//!
+//! What this crate promises to the crates above it:
+//!
+//! - A [`KeyStore`] takes keys in any order; contracts see it as the ascending list of keys with their counts. If out of
+//!   memory, [`KeyStore::add`] changes nothing. [`KeyStore::close`] returns a run (`Run` of oas_runs) of just that list,
+//!   which ascends strictly, or, if out of memory, the store unchanged. [`KeyStore::rest`] gives back idle memory, and
+//!   doesn't change the list.
+//! - The tally of any list of keys and counts (`tally`, specs/Tally.antt) is determined by its sums alone: a run with these
+//!   sums is that tally (`run_is_tally`, specs/Laws/TallyLaws.antt).
+//!
+//! How a store is built. A key above all of the rising run is put at its end, and one that equals its last key adds to that
+//! count. So keys that ascend are written once and never compared again. Any other key waits loose, unsorted, among at most 1
+//! MiB of such keys. When these are full they are sorted and equal ones are joined. The rising run and the sorted keys become
+//! runs, one after the other, and the last two runs are merged as long as the last has more than half the size of the one
+//! before it. So each run is at most half of the one before, there are few of them, and a key is moved about log n times in
+//! whatever order keys come. A rising run that is no longer than what waits, or than a block, is sorted together with it
+//! instead, so that both become one run: most stores of a few keys never merge. No contract is about time or about bytes.
+//!
+//! A sort first looks at the eight bytes after the common prefix of all keys that wait, which it keeps beside each key. For
+//! keys of one kind on one layer, or for names with a common prefix, these bytes decide most comparisons. A sort is not
+//! promised to be correct: what comes out of order begins another run.
+#![tactic(auto)]
+
+mod adding;
+mod joining;
+mod last;
+mod loose;
+mod rising;
+mod settling;
+mod store;
+
+pub use store::KeyStore;

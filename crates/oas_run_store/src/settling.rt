@@ -1,0 +1,150 @@
+//! The rising run and the loose keys become runs.
+
+ghost use Rattle.std.specs.Prelude.{◌≡◌, [], ◌∷◌, ◌++◌, IfOk, OnOk};
+ghost use Rattle.std.specs.Cmp.Lexicographic.{slice_cmp};
+ghost use Rattle.std.specs.Ordering.{nat_cmp};
+ghost use Rattle.oas_runs.specs.Runs.{IsRun, SameTotals};
+ghost use Rattle.oas_run_store.specs.Loose.{entries_of};
+ghost use Rattle.oas_runs.specs.Blocks.{joined};
+ghost use Rattle.oas_run_store.specs.Parts.{contents, AreRuns, AreParts, CountsFit};
+
+use crate::joining::{add_run, join_close};
+use crate::last::LastKey;
+use crate::loose::{Loose, in_order};
+use crate::rising::Rising;
+use oas_runs::{BLOCK, Block, Run};
+use std::alloc::{AllocError, Global};
+use std::cmp::Ordering;
+
+/// Closes a rising run, if it has begun, so that another begins; or changes nothing.
+fn settle_rising<K: LastKey>(
+    alloc: Global,
+    rising: &mut Rising<K>,
+    runs: &mut Vec<Run>,
+) -> Result<(), AllocError>
+    requires run { IsRun (slice_cmp nat_cmp) rising.old }
+    requires runs { AreRuns (slice_cmp nat_cmp) runs.old.items }
+    requires fits { CountsFit (slice_cmp nat_cmp) (rising.old ++ joined runs.old.items) }
+    ensures run { IsRun (slice_cmp nat_cmp) rising.new }
+    ensures runs { AreRuns (slice_cmp nat_cmp) runs.new.items }
+    ensures same { SameTotals (rising.new ++ joined runs.new.items) (rising.old ++ joined runs.old.items) }
+    ensures ok { OnOk result (rising.new ≡ []) }
+{
+    if rising.is_empty() {
+        return Ok(());
+    }
+    runs.reserve(1)?;
+    let run = rising.close(alloc)?;
+    add_run(alloc, runs, run);
+    Ok(())
+}
+
+/// Adds a key to the run that is made of entries in order; where that run is above it, another begins.
+fn put_next<'a>(
+    alloc: Global,
+    summing: &mut Rising<&'a [u8]>,
+    runs: &mut Vec<Run>,
+    key: &'a [u8],
+    times: u64,
+) -> Result<(), AllocError>
+    requires run { IsRun (slice_cmp nat_cmp) summing.old }
+    requires runs { AreRuns (slice_cmp nat_cmp) runs.old.items }
+    requires fits { CountsFit (slice_cmp nat_cmp) ((key.now, times) ∷ (summing.old ++ joined runs.old.items)) }
+    ensures run { OnOk result (IsRun (slice_cmp nat_cmp) summing.new) }
+    ensures runs { OnOk result (AreRuns (slice_cmp nat_cmp) runs.new.items) }
+    ensures same { OnOk result (SameTotals (summing.new ++ joined runs.new.items) ((key.now, times) ∷ (summing.old ++ joined runs.old.items))) }
+{
+    if times == 0 {
+        return Ok(());
+    }
+    match summing.order_of_last(key) {
+        Ordering::Less => summing.push_held(alloc, key, times)?,
+        Ordering::Equal => summing.count_last(times),
+        Ordering::Greater => {
+            settle_rising(alloc, summing, runs)?;
+            summing.push_held(alloc, key, times)?;
+        }
+    }
+    Ok(())
+}
+
+/// Entries with this many bytes as runs: one run, where their keys ascend.
+fn runs_of(alloc: Global, sorted: &[Loose<'_>], bytes: usize) -> Result<Vec<Run>, AllocError>
+    requires { CountsFit (slice_cmp nat_cmp) (entries_of sorted.now) }
+    ensures runs { IfOk result (λ runs. AreRuns (slice_cmp nat_cmp) runs.items) }
+    ensures same { IfOk result (λ runs. SameTotals (joined runs.items) (entries_of sorted.now)) }
+{
+    let mut summing = Rising::with_bytes(alloc, bytes)?;
+    let mut runs = Vec::new(alloc);
+    for entry in sorted {
+        put_next(alloc, &mut summing, &mut runs, entry.key, entry.times)?;
+    }
+    settle_rising(alloc, &mut summing, &mut runs)?;
+    Ok(runs)
+}
+
+/// The rising run and the loose keys, as runs.
+fn settled(alloc: Global, rising: &Rising<Vec<u8>>, loose: &Block) -> Result<Vec<Run>, AllocError>
+    requires { CountsFit (slice_cmp nat_cmp) (rising.now ++ loose.now) }
+    ensures runs { IfOk result (λ runs. AreRuns (slice_cmp nat_cmp) runs.items) }
+    ensures same { IfOk result (λ runs. SameTotals (joined runs.items) (rising.now ++ loose.now)) }
+{
+    let sorted = in_order(alloc, rising, loose)?;
+    runs_of(alloc, &sorted, rising.size().saturating_add(loose.size()))
+}
+
+/// Makes runs of the rising run and of the loose keys, of both together; or changes nothing.
+fn settle_both(
+    alloc: Global,
+    rising: &mut Rising<Vec<u8>>,
+    loose: &mut Block,
+    runs: &mut Vec<Run>,
+) -> Result<(), AllocError>
+    requires { AreParts (slice_cmp nat_cmp) rising.old loose.old runs.old.items }
+    ensures parts { AreParts (slice_cmp nat_cmp) rising.new loose.new runs.new.items }
+    ensures same { SameTotals (contents rising.new loose.new runs.new.items) (contents rising.old loose.old runs.old.items) }
+    ensures rising { OnOk result (rising.new ≡ []) }
+    ensures loose { OnOk result (loose.new ≡ []) }
+{
+    let mut more = settled(alloc, rising, loose)?;
+    runs.append(&mut more)?;
+    *rising = Rising::new(alloc);
+    loose.clear();
+    join_close(alloc, runs);
+    Ok(())
+}
+
+/// Closes the rising run, where it is longer than what waits loose or than a block: then a merge of both costs less than
+/// sorting them together.
+fn settle_long(
+    alloc: Global,
+    rising: &mut Rising<Vec<u8>>,
+    loose: &Block,
+    runs: &mut Vec<Run>,
+) -> Result<(), AllocError>
+    requires { AreParts (slice_cmp nat_cmp) rising.old loose.now runs.old.items }
+    ensures parts { AreParts (slice_cmp nat_cmp) rising.new loose.now runs.new.items }
+    ensures same { SameTotals (contents rising.new loose.now runs.new.items) (contents rising.old loose.now runs.old.items) }
+{
+    if rising.size() <= loose.size().min(BLOCK) {
+        return Ok(());
+    }
+    settle_rising(alloc, rising, runs)
+}
+
+/// Makes runs of the rising run and of the loose keys, so that both begin anew. If out of memory, all is still held.
+pub(crate) fn settle(
+    alloc: Global,
+    rising: &mut Rising<Vec<u8>>,
+    loose: &mut Block,
+    runs: &mut Vec<Run>,
+) -> Result<(), AllocError>
+    requires { AreParts (slice_cmp nat_cmp) rising.old loose.old runs.old.items }
+    ensures parts { AreParts (slice_cmp nat_cmp) rising.new loose.new runs.new.items }
+    ensures same { SameTotals (contents rising.new loose.new runs.new.items) (contents rising.old loose.old runs.old.items) }
+    ensures rising { OnOk result (rising.new ≡ []) }
+    ensures loose { OnOk result (loose.new ≡ []) }
+{
+    settle_long(alloc, rising, loose, runs)?;
+    settle_both(alloc, rising, loose, runs)
+}

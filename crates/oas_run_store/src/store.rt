@@ -1,0 +1,104 @@
+//! Keys with counts, in any order.
+
+ghost use Rattle.std.specs.Prelude.{◌≡◌, ◌+◌, ◌<◌, ◌^◌, [], OnOk, OnErr, IfOk, IfErr};
+ghost use Rattle.std.specs.Cmp.Lexicographic.{slice_cmp};
+ghost use Rattle.std.specs.Ordering.{nat_cmp};
+ghost use Rattle.oas_elements.specs.Bag.{put_more};
+ghost use Rattle.oas_runs.specs.Runs.{IsRun};
+ghost use Rattle.oas_run_store.specs.Tally.{count_at};
+
+use crate::adding::add_key;
+use crate::joining::join_all;
+use crate::rising::Rising;
+use crate::settling::settle;
+use oas_runs::{Block, Growing, Run};
+use std::alloc::{AllocError, Global};
+use std::marker::Model;
+
+/// Keys with their counts; contracts see the list of both, with the keys ascending.
+#[derive(Drop)]
+pub struct KeyStore {
+    alloc: Global,
+    rising: Rising<Vec<u8>>,
+    loose: Block,
+    runs: Vec<Run>,
+}
+
+impl Model for KeyStore {
+    ghost use Rattle.std.specs.Prelude.{List};
+    ghost use Rattle.std.specs.Cmp.Lexicographic.{slice_cmp};
+    ghost use Rattle.std.specs.Ordering.{nat_cmp};
+    ghost use Rattle.oas_runs.specs.Entries.{Entry};
+    ghost use Rattle.oas_run_store.specs.Tally.{tally};
+    ghost use Rattle.oas_run_store.specs.Parts.{AreParts, contents};
+
+    ghost Value = { List Entry };
+
+    ghost view = { λ a. tally (slice_cmp nat_cmp) (contents a.rising a.loose a.runs.items) };
+
+    ghost invariant = { λ a. AreParts (slice_cmp nat_cmp) a.rising a.loose a.runs.items };
+}
+
+impl KeyStore {
+    /// No keys, and no memory.
+    pub fn new(alloc: Global) -> KeyStore
+        ensures { result ≡ [] }
+    {
+        KeyStore {
+            alloc,
+            rising: Rising::new(alloc),
+            loose: Block::new(alloc),
+            runs: Vec::new(alloc),
+        }
+    }
+
+    /// Adds a key this many times; if out of memory, nothing.
+    pub fn add(&mut self, key: &[u8], times: u64) -> Result<(), AllocError>
+        requires some { 0 < times }
+        requires room { count_at (slice_cmp nat_cmp) self.old key.now + times < 2 ^ 64 }
+        ensures ok { OnOk result (self.new ≡ put_more (slice_cmp nat_cmp) self.old key.now times) }
+        ensures err { OnErr result (self.new ≡ self.old) }
+    {
+        add_key(
+            self.alloc,
+            &mut self.rising,
+            &mut self.loose,
+            &mut self.runs,
+            key,
+            times,
+        )?;
+        Ok(())
+    }
+
+    /// Gives back memory that is idle as long as no key is added.
+    pub fn rest(&mut self)
+        ensures { self.new ≡ self.old }
+    {
+        self.rising.fit();
+        self.loose.fit(0);
+    }
+
+    /// The keys ascending, each with its count; or, if out of memory, the store unchanged.
+    pub fn close(mut self) -> Result<Run, KeyStore>
+        ensures ok { IfOk result (λ run. run ≡ self) }
+        ensures run { IfOk result (λ run. IsRun (slice_cmp nat_cmp) run) }
+        ensures err { IfErr result (λ store. store ≡ self) }
+    {
+        match settle(
+            self.alloc,
+            &mut self.rising,
+            &mut self.loose,
+            &mut self.runs,
+        ) {
+            Ok(()) => {}
+            Err(AllocError) => return Err(self),
+        }
+        if !join_all(self.alloc, &mut self.runs) {
+            return Err(self);
+        }
+        match self.runs.pop() {
+            Some(run) => Ok(run),
+            None => Ok(Growing::new(self.alloc).into_run()),
+        }
+    }
+}

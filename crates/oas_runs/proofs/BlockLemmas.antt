@@ -1,0 +1,35 @@
+-- Rows of blocks.
+use Rattle.std.specs.Prelude.{◌≡◌, List, [], ◌∷◌, ◌++◌, length, refl}
+use Rattle.std.proofs.Common.{sym, ◌∙◌, ap, arith, append_assoc, append-nil}
+use Rattle.oas_runs.specs.Blocks.{joined}
+use Rattle.oas_runs.specs.Entries.{Entry}
+use Rattle.oas_runs.specs.Runs.{total, SameTotals}
+use Rattle.oas_runs.specs.Laws.RunLaws.{total-append}
+
+module _ {X : Type 0} where
+  pub joined-more : (xss : List (List X)) (xs : List X) → joined (xss ++ xs ∷ []) ≡ joined xss ++ xs
+  joined-more [] xs = append-nil xs
+  joined-more (ys ∷ yss) xs = ap (λ (zs : List X). ys ++ zs) (joined-more yss xs) ∙ sym (append_assoc ys (joined yss) xs)
+
+  -- one more item in the last block
+  pub in_last : (full : List (List X)) (last news whole : List X) (x : X) → news ≡ last ++ x ∷ [] → joined full ++ last ≡ whole → joined full ++ news ≡ whole ++ x ∷ []
+  in_last full last news whole x e v = ap (λ (xs : List X). joined full ++ xs) e ∙ sym (append_assoc (joined full) last (x ∷ [])) ∙ ap (λ (xs : List X). xs ++ x ∷ []) v
+
+  -- and in a new one
+  pub in_next : (full fulls : List (List X)) (last news whole : List X) (x : X) → fulls ≡ full ++ last ∷ [] → news ≡ x ∷ [] → joined full ++ last ≡ whole → joined fulls ++ news ≡ whole ++ x ∷ []
+  in_next full fulls last news whole x f e v = (λ i. joined (f i) ++ e i) ∙ ap (λ (xs : List X). xs ++ x ∷ []) (joined-more full last ∙ v)
+
+  -- the first block apart in place of the last
+  pub turned : (full rest news : List (List X)) (first last whole : List X) → full ≡ first ∷ rest → news ≡ rest ++ last ∷ [] → joined full ++ last ≡ whole → first ++ joined news ≡ whole
+  turned full rest news first last whole f n v =
+      ap (λ (xss : List (List X)). first ++ joined xss) n ∙ ap (λ (xs : List X). first ++ xs) (joined-more rest last)
+      ∙ sym (append_assoc first (joined rest) last) ∙ ap (λ (xss : List (List X)). joined xss ++ last) (sym f) ∙ v
+
+  pub front-nil : (xs ys : List X) → xs ++ ys ≡ [] → xs ≡ []
+  front-nil [] ys e = refl
+  front-nil (x ∷ xs) ys e = let l = ap length e in absurd (omega (arith, l))
+
+-- the last block may come first
+pub last_first : (full : List (List Entry)) (last es whole : List Entry) → es ≡ last ++ joined full → joined full ++ last ≡ whole → SameTotals es whole
+last_first full last es whole e w g =
+    omega (arith, ap (total g) e, ap (total g) w, total-append g last (joined full), total-append g (joined full) last)

@@ -1,0 +1,70 @@
+-- Reading the first entry, as the code does.
+use Rattle.std.specs.Prelude.{◌≡◌, ℕ, ◌+◌, ◌<◌, ◌≤◌, List, [], ◌∷◌, ◌++◌, length, take, drop, cond, nat_lt, slice_index, suc, zero, refl, true}
+use Rattle.std.specs.Int.{w64, from_le_bytes}
+use Rattle.std.proofs.lemmas.Bool.{lt-ltb}
+use Rattle.std.proofs.Common.{sym, ◌∙◌, ap, arith, subst}
+use Rattle.std.proofs.lemmas.List.{drop-append-le}
+use Rattle.oas_runs.specs.Entries.{Entry, number_size, number_at, key_start, entry_end, entries, entry_bytes, Fits, IsBlock}
+use Rattle.oas_runs.specs.Laws.EntryLaws.{Stands, IsMore, block-append, stands}
+
+pub record Reads (bytes key : List ℕ) (times end : ℕ) : Type 0 where
+  pub within : end ≤ length bytes
+  pub some : entries bytes ≡ (key, times) ∷ entries (drop end bytes)
+  pub rest : IsBlock (drop end bytes)
+
+pub reads : (bytes others key : List ℕ) (size len count_size times : ℕ) → Stands bytes → size ≡ number_size bytes → len ≡ number_at bytes → others
+    ≡ drop size bytes → count_size ≡ number_size others → times ≡ number_at others → key ≡ take len (drop (size + count_size) bytes) →
+    Reads bytes key times (size + count_size + len)
+reads bytes others key size len count_size times s a b c d e f =
+    let after : others ≡ drop (number_size bytes) bytes = c ∙ ap (λ (n : ℕ). drop n bytes) a in
+    let start : size + count_size ≡ key_start bytes = omega (arith, a, d, ap number_size after) in
+    let end : size + count_size + len ≡ entry_end bytes = omega (arith, start, b) in
+    let is_key : key ≡ take (number_at bytes) (drop (key_start bytes) bytes) = f ∙ (λ i. take (b i) (drop (start i) bytes)) in
+    let is_count : times ≡ number_at (drop (number_size bytes) bytes) = e ∙ ap number_at after in
+    record {
+      within = omega (arith, s.end, end);
+      some = s.read ∙ sym (λ i. (is_key i, is_count i) ∷ entries (drop (end i) bytes));
+      rest = subst (λ (n : ℕ). IsBlock (drop n bytes)) (sym end) s.rest;
+    }
+
+-- the numbers are a byte each
+pub reads_short : (bytes key : List ℕ) (len times : ℕ) → 0 < length bytes → IsBlock bytes → len ≡ slice_index bytes 0 → times ≡ slice_index bytes 1 → len < 255
+    → times < 255 → key ≡ take len (drop 2 bytes) → Reads bytes key times (2 + len)
+reads_short [] key len times h b l t m n k = absurd (omega (arith, h))
+reads_short (x ∷ xs) key len times h b l t m n k =
+    let size : nat_lt x 255 ≡ true = ap (λ (y : ℕ). nat_lt y 255) (sym l) ∙ lt-ltb len 255 m in
+    let count : nat_lt (slice_index xs 0) 255 ≡ true = ap (λ (y : ℕ). nat_lt y 255) (sym t) ∙ lt-ltb times 255 n in
+    reads (x ∷ xs) xs key 1 len 1 times (stands (x ∷ xs) h b)
+    (sym (ap (λ c. cond c 1 9) size))
+    (l ∙ sym (ap (λ c. cond c x (from_le_bytes w64 (take 8 xs))) size))
+    refl
+    (sym (ap (λ c. cond c 1 9) count))
+    (t ∙ sym (ap (λ c. cond c (slice_index xs 0) (from_le_bytes w64 (take 8 (drop 1 xs)))) count))
+    k
+
+drop-nil : (n : ℕ) → drop {A = ℕ} n [] ≡ []
+drop-nil zero = refl
+drop-nil (suc n) = refl
+
+-- the bytes of a block after some were taken
+drop-drop : (m n : ℕ) (bytes : List ℕ) → drop n (drop m bytes) ≡ drop (m + n) bytes
+drop-drop zero n bytes = let e : n ≡ 0 + n = omega arith in ap (λ (m : ℕ). drop m bytes) e
+drop-drop (suc m) n [] = drop-nil n ∙ sym (drop-nil (suc m + n))
+drop-drop (suc m) n (b ∷ bytes) = let e : suc (m + n) ≡ suc m + n = omega arith in drop-drop m n bytes ∙ ap (λ (k : ℕ). drop k (b ∷ bytes)) e
+
+pub later : (m n : ℕ) (bytes others : List ℕ) → others ≡ drop m bytes → drop n others ≡ drop (m + n) bytes
+later m n bytes others e = ap (λ (bs : List ℕ). drop n bs) e ∙ drop-drop m n bytes
+
+-- one more entry, at the end of a block from which some were taken
+pub appended : (start : ℕ) (olds news : List ℕ) (p : Entry) → start ≤ length olds → IsBlock (drop start olds) → Fits p → news ≡ olds ++ entry_bytes p →
+    IsMore (drop start news) (entries (drop start olds) ++ p ∷ [])
+appended start olds news p h b fits e =
+    let is : drop start news ≡ drop start olds ++ entry_bytes p = ap (λ (bs : List ℕ). drop start bs) e ∙ drop-append-le start olds (entry_bytes p) h in
+    subst (λ (bs : List ℕ). IsMore bs (entries (drop start olds) ++ p ∷ [])) (sym is) (block-append (drop start olds) p b fits)
+
+-- no entries are no bytes
+pub none-left : (bytes : List ℕ) → entries bytes ≡ [] → length bytes ≡ 0
+none-left [] e = refl
+none-left (b ∷ bytes) e = absurd (cons-nil _ _ e) where
+  cons-nil : (p : Entry) (ps : List Entry) → p ∷ ps ≡ [] → ⊥
+  cons-nil p ps e = let l = ap length e in omega (arith, l)

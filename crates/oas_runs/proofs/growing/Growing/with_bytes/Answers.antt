@@ -1,0 +1,5 @@
+use Rattle.std.proofs.Common.{rules}
+use Rattle.oas_runs.proofs.growing.Growing.with_bytes.Goals as goal
+
+pub returns : goal.returns
+returns c = search rules

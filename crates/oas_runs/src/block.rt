@@ -1,0 +1,134 @@
+//! A block of bytes that holds entries, the first of which may have been taken.
+
+ghost use Rattle.std.specs.Prelude.{◌≡◌, ◌+◌, ◌<◌, ◌≤◌, [], ◌∷◌, ◌++◌, List, ℕ, OnOk, OnErr, IfOk, IfSome, IfNone, IsTrue, IsFalse, length};
+ghost use Rattle.oas_runs.specs.Entries.{IsBlock, entries};
+
+use crate::entry::{Entry, after, is_over, push_entry, read_entry};
+use std::alloc::{AllocError, Global};
+use std::marker::Model;
+
+/// How many bytes a block holds, unless one entry is longer.
+pub const BLOCK: usize = 65536;
+
+/// How many bytes of an entry are not its key, at most.
+pub const MARGIN: usize = 18;
+
+/// Entries in a row of bytes; contracts see the list of those that are left.
+#[derive(Drop)]
+pub struct Block {
+    bytes: Vec<u8>,
+    start: usize,
+}
+
+impl Model for Block {
+    ghost use Rattle.std.specs.Prelude.{◌≤◌, List, drop, length};
+    ghost use Rattle.oas_runs.specs.Entries.{Entry, IsBlock, entries};
+
+    ghost Value = { List Entry };
+
+    ghost view = { λ a. entries (drop a.start a.bytes.items) };
+
+    ghost invariant = { λ a. (a.start ≤ length a.bytes.items) × IsBlock (drop a.start a.bytes.items) };
+}
+
+impl Block {
+    /// No entries, and no memory.
+    pub fn new(alloc: Global) -> Block
+        ensures { result ≡ [] }
+    {
+        Block {
+            bytes: Vec::new(alloc),
+            start: 0,
+        }
+    }
+
+    /// No entries, with room for one with a key of this many bytes, or for many.
+    pub(crate) fn with_room(alloc: Global, key_len: usize) -> Result<Block, AllocError>
+        ensures { IfOk result (λ block. block ≡ []) }
+    {
+        let size = key_len.saturating_add(MARGIN).max(BLOCK);
+        let bytes = Vec::with_capacity(alloc, size)?;
+        Ok(Block { bytes, start: 0 })
+    }
+
+    /// No entries, with room for this many bytes, but for no more than a block holds.
+    pub(crate) fn with_bytes(alloc: Global, bytes: usize) -> Result<Block, AllocError>
+        ensures { IfOk result (λ block. block ≡ []) }
+    {
+        let bytes = Vec::with_capacity(alloc, bytes.min(BLOCK))?;
+        Ok(Block { bytes, start: 0 })
+    }
+
+    /// How many bytes there are.
+    pub fn size(&self) -> usize {
+        self.bytes.len()
+    }
+
+    /// Drops all entries, and keeps the memory.
+    pub fn clear(&mut self)
+        ensures { self.new ≡ [] }
+    {
+        self.bytes.clear();
+        self.start = 0;
+    }
+
+    /// Whether no entry is left.
+    pub(crate) fn is_empty(&self) -> bool
+        ensures over { IsTrue result → self.now ≡ [] }
+        ensures left { IsFalse result → self.now ≡ [] → ⊥ }
+    {
+        is_over(self.left())
+    }
+
+    /// Whether one more entry fits into this block. Where there are none it does.
+    pub(crate) fn has_room(&self, key_len: usize) -> bool
+        ensures { IsFalse result → self.now ≡ [] → ⊥ }
+    {
+        let size = self.bytes.len().saturating_add(key_len);
+        size.saturating_add(MARGIN) <= BLOCK || self.is_empty()
+    }
+
+    /// Puts an entry at the end.
+    #[inline(always)]
+    pub fn append(&mut self, key: &[u8], times: u64) -> Result<(), AllocError>
+        ensures ok { OnOk result (self.new ≡ self.old ++ (key.now, times) ∷ []) }
+        ensures err { OnErr result (self.new ≡ self.old) }
+    {
+        push_entry(&mut self.bytes, key, times)?;
+        Ok(())
+    }
+
+    /// Gives back idle memory, except room for this many more bytes.
+    pub fn fit(&mut self, more: usize)
+        ensures { self.new ≡ self.old }
+    {
+        let wanted = self.bytes.len().saturating_add(more);
+        self.bytes.shrink_to(wanted);
+    }
+
+    /// The bytes of the entries that are left.
+    pub fn left(&self) -> &[u8]
+        ensures is { entries result.now ≡ self.now }
+        ensures block { IsBlock result.now }
+    {
+        after(&self.bytes, self.start)
+    }
+
+    /// The first entry that is left.
+    pub fn first(&self) -> Option<Entry<'_>>
+        ensures none { IfNone result (self.now ≡ []) }
+        ensures some { IfSome result (λ e. (es : List (List ℕ × ℕ)) × (self.now ≡ (e.key.now, e.times) ∷ es)) }
+    {
+        read_entry(after(&self.bytes, self.start))
+    }
+
+    /// Takes the first entry.
+    pub(crate) fn pop_first(&mut self)
+        requires { self.old ≡ [] → ⊥ }
+        ensures { (p : List ℕ × ℕ) × (self.old ≡ p ∷ self.new) }
+    {
+        if let Some(entry) = read_entry(after(&self.bytes, self.start)) {
+            self.start += entry.end;
+        }
+    }
+}

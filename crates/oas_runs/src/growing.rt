@@ -1,0 +1,129 @@
+//! A run of entries that is being written.
+
+ghost use Rattle.std.specs.Prelude.{◌≡◌, [], ◌∷◌, ◌++◌, List, OnOk, OnErr, IfOk};
+ghost use Rattle.oas_runs.specs.Blocks.{joined};
+ghost use Rattle.oas_runs.specs.Runs.{SameTotals};
+
+use crate::block::Block;
+use crate::entries::Entries;
+use crate::entry::SHORT_HEAD;
+use crate::run::Run;
+use std::alloc::{AllocError, Global};
+use std::collections::VecDeque;
+use std::marker::Model;
+use std::mem;
+
+/// Entries in blocks, the last of which grows.
+#[derive(Drop)]
+pub struct Growing {
+    full: VecDeque<Block>,
+    last: Block,
+    size: usize,
+}
+
+impl Model for Growing {
+    ghost use Rattle.std.specs.Prelude.{◌≡◌, List, [], ◌++◌};
+    ghost use Rattle.oas_runs.specs.Entries.{Entry};
+    ghost use Rattle.oas_runs.specs.Blocks.{joined, NoneEmpty};
+
+    ghost Value = { List Entry };
+
+    ghost view = { λ a. joined a.full.items ++ a.last };
+
+    ghost invariant = { λ a. NoneEmpty a.full.items × (a.last ≡ [] → a.full.items ≡ []) };
+}
+
+impl Growing {
+    /// No entries, and no memory.
+    pub fn new(alloc: Global) -> Growing
+        ensures { result ≡ [] }
+    {
+        Growing {
+            full: VecDeque::new(alloc),
+            last: Block::new(alloc),
+            size: 0,
+        }
+    }
+
+    /// No entries, with memory for this many bytes, or for a first block of them, reserved at once.
+    pub fn with_bytes(alloc: Global, bytes: usize) -> Result<Growing, AllocError>
+        ensures { IfOk result (λ growing. growing ≡ []) }
+    {
+        let last = Block::with_bytes(alloc, bytes)?;
+        Ok(Growing {
+            full: VecDeque::new(alloc),
+            last,
+            size: 0,
+        })
+    }
+
+    /// Puts an entry at the end.
+    pub fn append(&mut self, alloc: Global, key: &[u8], times: u64) -> Result<(), AllocError>
+        ensures ok { OnOk result (self.new ≡ self.old ++ (key.now, times) ∷ []) }
+        ensures err { OnErr result (self.new ≡ self.old) }
+    {
+        if self.last.has_room(key.len()) {
+            self.last.append(key, times)?;
+        } else {
+            let block = block_of(alloc, key, times)?;
+            self.full.reserve(1)?;
+            let full = mem::replace(&mut self.last, block);
+            self.full.push_back_reserved(full);
+        }
+        self.size = size_with(self.size, key);
+        Ok(())
+    }
+
+    /// Gives back idle memory of the last bytes, except room for this many more.
+    pub fn fit(&mut self, more: usize)
+        ensures { self.new ≡ self.old }
+    {
+        self.last.fit(more);
+    }
+
+    /// How many bytes were put, about.
+    pub fn size(&self) -> usize {
+        self.size
+    }
+
+    /// The entries, those of the last block first.
+    pub fn entries(&self) -> Entries<'_>
+        ensures { SameTotals result self.now }
+    {
+        Entries::of(self.last.left(), &self.full)
+    }
+
+    /// The run that was written.
+    pub fn into_run(self) -> Run
+        ensures { result ≡ self }
+    {
+        let Growing {
+            mut full,
+            last,
+            size,
+        } = self;
+        match full.pop_front() {
+            Some(first) => {
+                full.push_back_reserved(last);
+                Run::of(first, full, size)
+            }
+            None => Run::of(last, full, size),
+        }
+    }
+}
+
+/// About how many bytes there are with one more entry: its numbers may take more.
+#[inline(always)]
+pub fn size_with(size: usize, key: &[u8]) -> usize {
+    size.saturating_add(key.len()).saturating_add(SHORT_HEAD)
+}
+
+/// A block with one entry.
+#[inline(never)]
+fn block_of(alloc: Global, key: &[u8], times: u64) -> Result<Block, AllocError>
+    ensures { IfOk result (λ block. block ≡ (key.now, times) ∷ []) }
+{
+    let mut block = Block::with_room(alloc, key.len())?;
+    block.append(key, times)?;
+    Ok(block)
+}

@@ -1,0 +1,83 @@
+//! A run of entries in blocks, from which the first can be taken.
+
+ghost use Rattle.std.specs.Prelude.{◌≡◌, ◌+◌, ◌<◌, [], ◌∷◌, ◌++◌, List, ℕ, IfSome, IfNone, IsTrue, IsFalse};
+ghost use Rattle.oas_runs.specs.Blocks.{joined, NoneEmpty};
+
+use crate::block::Block;
+use crate::entries::Entries;
+use crate::entry::Entry;
+use std::collections::VecDeque;
+use std::marker::Model;
+
+/// Entries in blocks; contracts see the list of those that are left. A block that is used up is freed.
+#[derive(Drop)]
+pub struct Run {
+    first: Block,
+    rest: VecDeque<Block>,
+    size: usize,
+}
+
+impl Model for Run {
+    ghost use Rattle.std.specs.Prelude.{◌≡◌, List, [], ◌++◌};
+    ghost use Rattle.oas_runs.specs.Entries.{Entry};
+    ghost use Rattle.oas_runs.specs.Blocks.{joined, NoneEmpty};
+
+    ghost Value = { List Entry };
+
+    ghost view = { λ a. a.first ++ joined a.rest.items };
+
+    ghost invariant = { λ a. NoneEmpty a.rest.items × (a.first ≡ [] → a.rest.items ≡ []) };
+}
+
+impl Run {
+    /// The entries of these blocks. None except the first may be empty.
+    pub(crate) fn of(first: Block, rest: VecDeque<Block>, size: usize) -> Run
+        requires rest { NoneEmpty rest.items }
+        requires first { first ≡ [] → rest.items ≡ [] }
+        ensures { result ≡ first ++ joined rest.items }
+    {
+        Run { first, rest, size }
+    }
+
+    /// About how many bytes it was made of.
+    pub fn size(&self) -> usize {
+        self.size
+    }
+
+    /// Whether no entry is left.
+    pub fn is_empty(&self) -> bool
+        ensures over { IsTrue result → self.now ≡ [] }
+        ensures left { IsFalse result → self.now ≡ [] → ⊥ }
+    {
+        self.first.is_empty()
+    }
+
+    /// The first entry that is left.
+    pub fn first(&self) -> Option<Entry<'_>>
+        ensures none { IfNone result (self.now ≡ []) }
+        ensures some { IfSome result (λ e. (es : List (List ℕ × ℕ)) × (self.now ≡ (e.key.now, e.times) ∷ es)) }
+    {
+        self.first.first()
+    }
+
+    /// The entries that are left.
+    pub fn entries(&self) -> Entries<'_>
+        ensures { result ≡ self.now }
+    {
+        Entries::of(self.first.left(), &self.rest)
+    }
+
+    /// Takes the first entry.
+    pub fn pop_first(&mut self)
+        requires { self.old ≡ [] → ⊥ }
+        ensures { (p : List ℕ × ℕ) × (self.old ≡ p ∷ self.new) }
+    {
+        self.first.pop_first();
+        if !self.first.is_empty() {
+            return;
+        }
+        if let Some(next) = self.rest.pop_front() {
+            self.first = next;
+        }
+    }
+}

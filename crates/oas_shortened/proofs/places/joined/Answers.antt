@@ -1,5 +1,0 @@
-use Rattle.std.proofs.Common.{rules}
-use Rattle.oas_shortened.proofs.places.joined.Goals as goal
-
-pub returns-then-byte-eq0 : goal.returns-then-byte-eq0
-returns-then-byte-eq0 c = search rules

@@ -1,2 +1,0 @@
-pub mod SigningLemmas
-pub mod SummingLemmas

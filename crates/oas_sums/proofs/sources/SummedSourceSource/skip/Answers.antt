@@ -1,5 +1,0 @@
-use Rattle.oas_bytes.proofs.ScriptLemmas.{Consumed-nothing}
-use Rattle.oas_sums.proofs.sources.SummedSourceSource.skip.Goals as goal
-
-pub returns : goal.returns
-returns g c = Consumed-nothing _ _ c.requires

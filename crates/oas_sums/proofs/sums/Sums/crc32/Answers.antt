@@ -1,5 +1,0 @@
-use Rattle.std.proofs.Common.{rules}
-use Rattle.oas_sums.proofs.sums.Sums.crc32.Goals as goal
-
-pub returns : goal.returns
-returns c = search rules

@@ -1,0 +1,12 @@
+pub mod Corners
+pub mod Deltas
+pub mod Named
+pub mod Sides
+pub mod Places
+pub mod Tracked
+pub mod Kept
+pub mod Shapes
+pub mod Trapezoids
+pub mod Extensions
+pub mod Steps
+pub mod Laws

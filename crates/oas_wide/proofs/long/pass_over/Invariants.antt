@@ -1,5 +1,0 @@
-use Rattle.oas_num.proofs.TextLemmas.{Passed}
-use Rattle.oas_wide.proofs.long.pass_over.Given as goal
-
-abbrev pub invariant-loop : goal.invariant-loop
-invariant-loop g l = Passed (g.S.Source.script l.fn.source) (g.S.Source.script l.source) l.counter
