@@ -1,7 +1,6 @@
 //! Inflating packets. `tests/inflate` and `bench/inflate` do the same by zlib.
 
-use oas_inflate::oas_inflated::{Inflated, InflatedSource};
-use oas_inflate::{Bits, Fault, inflate};
+use oas_inflate::{Bits, Fault, Inflated, InflatedSource, inflate};
 use oas_num::{SliceSource, Source};
 use std::alloc::Global;
 use std::io::{self, Read};

@@ -1,6 +1,6 @@
 //! A compressed block that was read.
 
-use oas_inflate::oas_inflated::Inflated;
+use oas_inflate::Inflated;
 
 /// A block's data, and how its stream ends.
 #[derive(Debug, Drop)]

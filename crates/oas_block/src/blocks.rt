@@ -6,8 +6,7 @@ ghost use Rattle.oas_block.specs.Inflating.{PassesByte, Passes, Finishes, Judges
 use crate::block::{Block, BlockEnd};
 use crate::faults::BlockFault;
 use crate::fronts::{PrefixSource, Start};
-use oas_inflate::oas_inflated::Inflated;
-use oas_inflate::{Bits, Fault, Stopped, inflate};
+use oas_inflate::{Bits, Fault, Inflated, Stopped, inflate};
 use oas_num::{Source, SourceFault, Why};
 use oas_standard::BlockHead;
 use std::alloc::Global;

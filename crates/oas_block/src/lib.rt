@@ -38,5 +38,8 @@ pub mod laws;
 pub use block::{Block, BlockEnd};
 pub use blocks::read_block;
 pub use faults::BlockFault;
-pub use oas_inflate::oas_inflated::{Inflated, InflatedSource};
-pub use oas_standard;
+pub use oas_inflate::{Inflated, InflatedSource};
+pub use oas_standard::{
+    BlockHead, Trapezoid, Validation, WideEnd, WidePlacement, WideReal, WideRecord, WideRefusal,
+    WideStart, WideWhy,
+};

@@ -47,5 +47,5 @@ mod weighing;
 // The crates below, for those above.
 pub use cells::CompactCell;
 pub use elements::ElementStore;
-pub use oas_keys;
+pub use oas_keys::{SpelledElement, SpelledPoints, read_key};
 pub use profiles::{ByProfileOne, ByProfileTwo, KeptBy};

@@ -17,8 +17,7 @@ use crate::short::Short;
 use crate::waiting::Waiting;
 use oas_elements::Profile;
 use oas_num::{Label, Name, Why};
-use oas_reader::NameTable;
-use oas_reader::oas_drawing::Drawn;
+use oas_reader::{Drawn, NameTable};
 use std::alloc::AllocError;
 use std::collections::BTreeMap;
 

@@ -4,7 +4,7 @@ ghost use Rattle.std.specs.Prelude.{◌≡◌, IfSome};
 ghost use Rattle.oas_cells.specs.Short.{drawn_as, drawn_of};
 
 use oas_elements::Turns;
-use oas_reader::oas_drawing::Drawn;
+use oas_reader::Drawn;
 
 /// Something drawn once by a number, in 16 bytes: most of what waits fits.
 #[derive(Clone, Copy)]

@@ -8,8 +8,7 @@ ghost use Rattle.oas_cells.specs.Weighing.{behind, name_bytes_times, waiting_wei
 use crate::chunks::{Chunk, Chunks};
 use crate::short::Short;
 use oas_num::{Label, Name};
-use oas_reader::NameTable;
-use oas_reader::oas_drawing::Drawn;
+use oas_reader::{Drawn, NameTable};
 use std::collections::BTreeMap;
 
 /// How many bytes the name of a number has: none, where something isn't drawn by a number; None where its number has no name.

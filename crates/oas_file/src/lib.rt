@@ -73,5 +73,5 @@ pub mod laws;
 mod reading;
 
 // The crates below, for those above.
-pub use oas_reader;
+pub use oas_reader::{CellStore, CountedCell, NameTable, Reader, Taken, accept_cells, cell_meant};
 pub use reading::{find_end_of_input, take_record, take_records};

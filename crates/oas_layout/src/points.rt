@@ -8,7 +8,7 @@ ghost use Rattle.oas_cells.specs.Reading.{HasPoints};
 ghost use Rattle.oas_layout.specs.Held.{HeldPoints};
 ghost use Rattle.oas_layout.specs.Laws.PointsLaws.{points_prop};
 
-use oas_cells::oas_keys::SpelledPoints;
+use oas_cells::SpelledPoints;
 use oas_ring::Point;
 use std::marker::Model;
 

@@ -10,7 +10,7 @@ ghost use Rattle.oas_layout.specs.Shown.{element_of};
 use crate::element::KeyedElement;
 use crate::points::ShownPoints;
 use crate::shown::ShownElement;
-use oas_cells::oas_keys::{SpelledElement, read_key};
+use oas_cells::{SpelledElement, read_key};
 
 /// What is spelled, as it is shown.
 fn shown(spelled: SpelledElement<'_>) -> ShownElement<'_>

@@ -2,7 +2,7 @@
 ghost use Rattle.std.specs.Prelude.{◌≡◌};
 ghost use Rattle.oas_narrow.specs.Dropping.{is_named, is_name, undropped, counted};
 
-use oas_block::oas_standard::WideWhy;
+use oas_block::WideWhy;
 
 /// What may be left out of a file, since the profile has no such record.
 #[derive(Clone, Copy, Debug, PartialEq, Eq)]

@@ -44,11 +44,13 @@ mod turning;
 
 // The crates below, for those above.
 pub use dropping::{Dropping, Extra, Report};
-pub use oas_block;
-pub use oas_block::oas_standard;
-pub use oas_checksum;
-pub use oas_reader;
-pub use oas_trapezoids;
+pub use oas_block::{
+    BlockEnd, BlockFault, BlockHead, Inflated, InflatedSource, Validation, WideEnd, WideReal,
+    WideRecord, WideRefusal, WideStart, WideWhy, read_block,
+};
+pub use oas_checksum::{Start, SummedSource, Sums};
+pub use oas_reader::{CellStore, Reader};
+pub use oas_trapezoids::{Resolved, Resolver};
 pub use places::{Place, Rejection};
 pub use roles::Role;
 pub use turning::with_turns;

@@ -2,7 +2,7 @@
 ghost use Rattle.std.specs.Prelude.{◌≡◌};
 ghost use Rattle.oas_narrow.specs.Rejections.{rejected, refused};
 
-use oas_block::oas_standard::{WideRefusal, WideWhy};
+use oas_block::{WideRefusal, WideWhy};
 use oas_num::Refusal;
 
 /// Where a file isn't prepared.

@@ -3,7 +3,7 @@ ghost use Rattle.std.specs.Prelude.{◌≡◌};
 ghost use Rattle.oas_narrow.specs.Roles.{plain_role, trapezoid_id, role_of, opens, outside, unnamed, obstacle_by, extra_of, counted_if};
 
 use crate::dropping::{Dropping, Extra, Report};
-use oas_block::oas_standard::{Trapezoid, WideRecord, WideWhy};
+use oas_block::{Trapezoid, WideRecord, WideWhy};
 use oas_num::Why;
 use oas_record::Record;
 

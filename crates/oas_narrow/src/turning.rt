@@ -2,7 +2,7 @@
 ghost use Rattle.std.specs.Prelude.{◌≡◌, ◌≢◌, ◌≤◌, ◌<◌, ◌*◌, ◌%◌, ◌^◌, ℕ, IfSome, IsNone};
 ghost use Rattle.oas_narrow.specs.Placements.{is_one, quarters_of, is_plain, plain_of, magnification_of, angle_of, placement_of, with_turns};
 
-use oas_block::oas_standard::{WidePlacement, WideReal, WideRecord};
+use oas_block::{WidePlacement, WideReal, WideRecord};
 use oas_num::Real;
 use oas_record::{Placement, Record, Turn};
 

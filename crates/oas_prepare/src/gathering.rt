@@ -6,9 +6,9 @@ use crate::inside::take_block;
 use crate::taking::Preparation;
 use oas_canon::find_end_of_input;
 use oas_elements::{Limits, Profile};
-use oas_narrow::oas_reader::{CellStore, Reader};
-use oas_narrow::oas_standard::{BlockHead, WideEnd, WideRecord, WideRefusal, WideStart};
-use oas_narrow::{Dropping, Rejection};
+use oas_narrow::{
+    BlockHead, CellStore, Dropping, Reader, Rejection, WideEnd, WideRecord, WideRefusal, WideStart,
+};
 use oas_num::Source;
 use std::alloc::Global;
 

@@ -5,8 +5,7 @@ ghost use Rattle.oas_prepare.specs.Places.{at_file};
 ghost use Rattle.oas_prepare.specs.Heads.{ReadsWideHead};
 
 use crate::units::unit_of;
-use oas_narrow::oas_standard::{WideStart, WideWhy};
-use oas_narrow::{Place, Rejection};
+use oas_narrow::{Place, Rejection, WideStart, WideWhy};
 use oas_num::{Fraction, Source, Why};
 use oas_record::read_magic;
 use std::alloc::Global;

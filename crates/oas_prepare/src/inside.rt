@@ -7,10 +7,10 @@ ghost use Rattle.oas_prepare.specs.Inside.{ReadsInside, ConsumesData, ConsumesBl
 
 use crate::gathering::{Next, take_next};
 use crate::taking::Preparation;
-use oas_narrow::oas_block::{BlockEnd, BlockFault, Inflated, InflatedSource, read_block};
-use oas_narrow::oas_reader::{CellStore, Reader};
-use oas_narrow::oas_standard::{BlockHead, WideRecord, WideWhy};
-use oas_narrow::{Place, Rejection};
+use oas_narrow::{
+    BlockEnd, BlockFault, BlockHead, CellStore, Inflated, InflatedSource, Place, Reader, Rejection,
+    WideRecord, WideWhy, read_block,
+};
 use oas_num::{Source, Why};
 use std::alloc::Global;
 

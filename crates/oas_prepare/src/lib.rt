@@ -59,6 +59,5 @@ pub use oas_canon::{
     Layout, Limits, PROFILE, Refusal, Sink, SinkFault, SliceSource, Which, Why,
     has_canonical_bytes, key, put_canonical, put_cell_keys, put_listing, read_layout,
 };
-pub use oas_narrow::oas_standard::WideWhy;
-pub use oas_narrow::{Dropping, Extra, Place, Rejection, Report};
+pub use oas_narrow::{Dropping, Extra, Place, Rejection, Report, WideWhy};
 pub use preparing::{prepare, read_prepared};

@@ -13,10 +13,7 @@ use oas_canon::{
     ByProfileOne, ByProfileTwo, CompactCell, KeptBy, Layout, finish_layout, write_canonical,
 };
 use oas_elements::{Limits, Profile};
-use oas_narrow::oas_checksum::{Start, SummedSource, Sums};
-use oas_narrow::oas_reader::Reader;
-use oas_narrow::oas_standard::WideWhy;
-use oas_narrow::{Dropping, Place, Rejection, Report};
+use oas_narrow::{Dropping, Place, Reader, Rejection, Report, Start, SummedSource, Sums, WideWhy};
 use oas_num::{Device, Source};
 use std::alloc::Global;
 use std::marker::Brand;

@@ -2,8 +2,7 @@
 ghost use Rattle.std.specs.Prelude.{◌≡◌, true, false};
 ghost use Rattle.oas_prepare.specs.Signing.{IsRight, IsWrong};
 
-use oas_narrow::oas_checksum::Sums;
-use oas_narrow::oas_standard::Validation;
+use oas_narrow::{Sums, Validation};
 
 /// Whether a file with this signature in its END is complete, if the sums are those of its bytes before it.
 pub(crate) fn came_whole(validation: Validation, sums: &Sums) -> bool

@@ -9,10 +9,10 @@ ghost use Rattle.oas_prepare.specs.Taking.{Stands, SameRun, IsStop, IsRefused, o
 
 use crate::inside::stopped;
 use oas_elements::{Limits, Profile};
-use oas_narrow::oas_reader::{CellStore, Reader};
-use oas_narrow::oas_standard::WideRecord;
-use oas_narrow::oas_trapezoids::{Resolved, Resolver};
-use oas_narrow::{Dropping, Rejection, Report, Role, with_turns};
+use oas_narrow::{
+    CellStore, Dropping, Reader, Rejection, Report, Resolved, Resolver, Role, WideRecord,
+    with_turns,
+};
 use oas_num::{Fraction, Refusal};
 use oas_record::Record;
 use std::alloc::Global;

@@ -4,7 +4,7 @@ ghost use Rattle.oas_num.specs.Ratio.{Ratio, Reduces};
 ghost use Rattle.oas_narrow.specs.Preparable.{IsUnitOf};
 ghost use Rattle.oas_prepare.specs.Units.{ratio, IsPast};
 
-use oas_narrow::oas_standard::WideReal;
+use oas_narrow::WideReal;
 use oas_num::Fraction;
 
 /// A fraction in lowest terms, doubled this often, in lowest terms. None exactly where its numerator isn't below 2^64.

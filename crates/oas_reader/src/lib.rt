@@ -105,7 +105,7 @@ pub use accepting::accept_cells;
 pub use counted::CountedCell;
 pub use meant::{cell_meant, head_weight};
 pub use names::{NameTable, Numbering};
-pub use oas_drawing;
+pub use oas_drawing::{Drawn, DrawnOnce};
 pub use reader::Reader;
 pub use stores::{CellStore, Weighed};
 pub use taken::Taken;

@@ -1,9 +1,9 @@
 //! What no contract says: a block is read where memory is there, and which fault is returned for each way to go wrong. The
 //! streams were made by zlib 1.2.13, and their data are what was given to it.
 
-use oas_block::oas_standard::BlockHead;
 use oas_block::{Block, BlockEnd, BlockFault, InflatedSource, read_block};
 use oas_num::{ReaderSource, SliceSource, Source, Why};
+use oas_standard::BlockHead;
 use std::alloc::Global;
 use std::io;
 use std::io::{ErrorKind, Read};

@@ -1,10 +1,10 @@
 //! Records that are read where memory is there, and the values of reals that are known from outside.
 
-use oas_block::oas_standard::{
+use oas_num::{INPUT_MAX, Padding, SliceSource, Source, Spelled, Why};
+use oas_standard::{
     BlockHead, ExtensionGeometry, LayerName, NamedTrapezoid, Property, Trapezoid, WideEnd,
     WidePlacement, WideReal, WideRecord, WideRefusal, WideStart, read_attributed, read_string,
 };
-use oas_num::{INPUT_MAX, Padding, SliceSource, Source, Spelled, Why};
 use std::alloc::Global;
 use std::test::Fail;
 use test_tools::bytes_of;

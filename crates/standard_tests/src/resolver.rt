@@ -6,11 +6,11 @@ mod table;
 
 use self::corners::{KINDS, TRAPEZOIDS};
 use self::table::ROWS;
-use oas_block::oas_standard::{WideRecord, WideWhy};
 use oas_num::{INPUT_MAX, SliceSource, Source};
 use oas_record::{CellRef, Polygon, Record, Spot};
 use oas_ring::Point;
 use oas_shape::RepField;
+use oas_standard::{WideRecord, WideWhy};
 use oas_trapezoids::{Resolved, Resolver};
 use std::alloc::{AllocError, Global};
 use std::process::Abort;

@@ -5,9 +5,9 @@
 //! fails, and the results are the same.
 
 use super::{discard, in_a_cell, next};
-use oas_block::oas_standard::WideWhy;
 use oas_num::{SliceSource, Why};
 use oas_record::Record;
+use oas_standard::WideWhy;
 use oas_trapezoids::{Resolved, Resolver};
 use std::alloc::{AllocError, Global};
 use std::test::Fail;
