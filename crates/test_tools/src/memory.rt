@@ -21,9 +21,12 @@ const MOST_PIECES: usize = 20_000;
 /// How many other pieces are kept.
 const MOST_OTHERS: usize = 300_000;
 
-/// The size of the memory that the small pieces are cut from, in bytes. It is more than what an allocator keeps apart of freed
-/// memory by its size.
-const ROOM: usize = 262_144;
+/// The size of one of the rooms that the small pieces are cut from, in bytes. It is below the size from which an allocator gives
+/// freed memory back to the system.
+const ROOM: usize = 65_536;
+
+/// How many rooms there are. Together they have more bytes than an allocator keeps apart of freed memory by its size.
+const ROOMS: usize = 4;
 
 /// Takes pieces of one size until there are none left, or `held` is full.
 fn take_pieces(alloc: Global, size: usize, held: &mut Vec<Vec<u8>>) {
@@ -65,9 +68,10 @@ impl Hoard {
     pub fn new(alloc: Global) -> Result<Hoard, AllocError> {
         let mut pieces = Vec::with_capacity(alloc, MOST_PIECES)?;
         let mut rest = Vec::with_capacity(alloc, MOST_OTHERS)?;
-        let room = Vec::<u8>::with_capacity(alloc, ROOM)?;
+        let mut rooms = Vec::with_capacity(alloc, ROOMS)?;
+        take_pieces(alloc, ROOM, &mut rooms);
         fill(alloc, LARGEST, &mut rest);
-        drop(room);
+        drop(rooms);
         fill(alloc, SMALLEST, &mut pieces);
         let is_full = Vec::<u8>::with_capacity(alloc, SMALLEST).is_err();
         if !is_full {
