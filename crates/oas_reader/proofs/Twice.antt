@@ -50,7 +50,7 @@ twice_at (k ∷ ks) n rs h = by (same_string n k) refl h (λ later. twice_at ks 
   by false e h later = ap (λ b. list_any (same_string k) (ks ++ n ∷ rs) || b) (later h) ∙ or_true (list_any (same_string k) (ks ++ n ∷ rs))
 
 -- and one that isn't doesn't
-once_at : (ks : List (List ℕ)) (n : List ℕ) → list_any (same_string n) ks ≡ false → has_twice ks ≡ false → has_twice (ks ++ n ∷ []) ≡ false
+pub once_at : (ks : List (List ℕ)) (n : List ℕ) → list_any (same_string n) ks ≡ false → has_twice ks ≡ false → has_twice (ks ++ n ∷ []) ≡ false
 once_at [] n h t = refl
 once_at (k ∷ ks) n h t = by (same_string n k) (list_any (same_string k) ks) refl refl h t (λ u v. once_at ks n u v) where
   by : (a b : Bool) → same_string n k ≡ a → list_any (same_string k) ks ≡ b → (a || list_any (same_string n) ks) ≡ false → (b || has_twice ks) ≡ false
@@ -83,31 +83,32 @@ seen_more has more ns n s new is = record {
       let here : same_string q.now n.now ≡ false = nat_list_eq_equiv.symm q.now n.now ∙ e in
       s.set q ∙ sym (list_any-append (same_string q.now) ns (n.now ∷ []) ∙ ap (λ b. list_any (same_string q.now) ns || (b || false)) here ∙ or_false (list_any (same_string q.now) ns))
 
+-- the names with one more cell, which has no name
+pub names_none : (names : List (ℕ × List ℕ)) (cs : List CellRef) (c : CellRef) → cell_by names c ≡ None → names_meant names (cs ++ c ∷ []) ≡ names_meant names cs
+names_none names cs c e = names_append names cs (c ∷ []) ∙ ap (λ (o : Option (List ℕ)). names_meant names cs ++ with_name o []) e ∙ nil (names_meant names cs) where
+  nil : (ns : List (List ℕ)) → ns ++ [] ≡ ns
+  nil [] = refl
+  nil (n ∷ ns) = ap (λ (ms : List (List ℕ)). n ∷ ms) (nil ns)
+
+-- the names with one more cell, which has one, and those after it
+pub names_some : (names : List (ℕ × List ℕ)) (cs ds : List CellRef) (c : CellRef) (n : List ℕ) → cell_by names c ≡ Some n
+    → names_meant names (cs ++ c ∷ ds) ≡ names_meant names cs ++ n ∷ names_meant names ds
+names_some names cs ds c n e = names_append names cs (c ∷ ds) ∙ ap (λ (o : Option (List ℕ)). names_meant names cs ++ with_name o (names_meant names ds)) e
+
 -- one more cell without a name
 pub seen_none : (names : List (ℕ × List ℕ)) (has : Bor (List ℕ) → Bool) (cs : List CellRef) (c : CellRef) → cell_by names c ≡ None → Seen has (names_meant names cs)
     → Seen has (names_meant names (cs ++ c ∷ []))
-seen_none names has cs c e s =
-    let same : names_meant names (cs ++ c ∷ []) ≡ names_meant names cs =
-    names_append names cs (c ∷ []) ∙ ap (λ (o : Option (List ℕ)). names_meant names cs ++ with_name o []) e ∙ nil (names_meant names cs) in
-    subst (Seen has) (sym same) s where
-      nil : (ns : List (List ℕ)) → ns ++ [] ≡ ns
-      nil [] = refl
-      nil (n ∷ ns) = ap (λ (ms : List (List ℕ)). n ∷ ms) (nil ns)
+seen_none names has cs c e s = subst (Seen has) (sym (names_none names cs c e)) s
 
 -- one more cell with a name that isn't in the set
 pub seen_some : (names : List (ℕ × List ℕ)) (has more : Bor (List ℕ) → Bool) (cs : List CellRef) (c : CellRef) (n : Bor (List ℕ)) → cell_by names c ≡ Some n.now → has n ≡ false
     → ((q : Bor (List ℕ)) → more q ≡ cond (same_string n.now q.now) true (has q)) → Seen has (names_meant names cs) → Seen more (names_meant names (cs ++ c ∷ []))
-seen_some names has more cs c n e new is s =
-    let same : names_meant names (cs ++ c ∷ []) ≡ names_meant names cs ++ n.now ∷ [] = names_append names cs (c ∷ []) ∙ ap (λ (o : Option (List ℕ)). names_meant names cs ++ with_name o []) e in
-    subst (Seen more) (sym same) (seen_more has more (names_meant names cs) n s new is)
+seen_some names has more cs c n e new is s = subst (Seen more) (sym (names_some names cs [] c n.now e)) (seen_more has more (names_meant names cs) n s new is)
 
 -- a name that is in the set occurs twice
 pub seen_twice : (names : List (ℕ × List ℕ)) (has : Bor (List ℕ) → Bool) (cs ds : List CellRef) (c : CellRef) (n : Bor (List ℕ)) → cell_by names c ≡ Some n.now → has n ≡ true
     → Seen has (names_meant names cs) → has_twice (names_meant names (cs ++ c ∷ ds)) ≡ true
-seen_twice names has cs ds c n e there s =
-    let same : names_meant names (cs ++ c ∷ ds) ≡ names_meant names cs ++ n.now ∷ names_meant names ds =
-    names_append names cs (c ∷ ds) ∙ ap (λ (o : Option (List ℕ)). names_meant names cs ++ with_name o (names_meant names ds)) e in
-    ap has_twice same ∙ twice_at (names_meant names cs) n.now (names_meant names ds) (sym (s.set n) ∙ there)
+seen_twice names has cs ds c n e there s = ap has_twice (names_some names cs ds c n.now e) ∙ twice_at (names_meant names cs) n.now (names_meant names ds) (sym (s.set n) ∙ there)
 
 -- a list at one of its places
 pub split_at : {X : Type 0} (xs : List X) (i : ℕ) (x : X) → i < length xs → x ≡ get_or xs i x → xs ≡ take i xs ++ x ∷ drop (suc i) xs

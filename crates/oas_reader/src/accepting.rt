@@ -1,6 +1,10 @@
 //! What END refuses of the cells that were drawn, by the tables of the whole file.
 
-ghost use Rattle.std.specs.Prelude.{◌≡◌, ◌⊎◌, List, None, Some, OnOk, IfOk, IfErr, map};
+ghost use Rattle.std.specs.Prelude.{◌≡◌, ◌⊎◌, ℕ, List, true, false, None, Some, OnOk, IfOk, IfErr, map};
+ghost use Rattle.std.specs.Cmp.Lexicographic.{slice_cmp};
+ghost use Rattle.std.specs.declared.cmp.Ordering.TheVariants.{Less};
+ghost use Rattle.std.specs.Ordering.{nat_cmp};
+ghost use Rattle.std.specs.Option.{option_copied};
 ghost use Rattle.std.specs.List.{AllByRecursion};
 ghost use Rattle.oas_num.specs.declared.refusals.Why.TheVariants.{Memory};
 ghost use Rattle.oas_reader.specs.Meaning.{DrawnCell, end_reason, has_twice, names_meant};
@@ -85,8 +89,50 @@ fn all_weight<S: Weighed>(
     Some(weight)
 }
 
-/// Whether two cells have one name. The set is ordered, so that no choice of names makes it slow.
+/// Whether a name is above the one before it, if there is one.
+#[inline]
+fn is_above(before: Option<&Name>, name: &Name) -> bool
+    ensures { (last : List ℕ) → result ≡ true → option_copied before.entry ≡ Some last → slice_cmp nat_cmp last name.now ≡ Less }
+{
+    match before {
+        Some(before) => before < name,
+        None => true,
+    }
+}
+
+/// Whether the names of the cells ascend, as in a canonical file. So no name is there twice.
+fn names_ascend<S: CellStore>(cells: &[S], names: &NameTable<Name>) -> bool
+    ensures { result ≡ true → has_twice (names_meant names.now.named (map S.store.cell cells.now)) ≡ false }
+{
+    let mut last = None;
+    for cell in cells {
+        if let Some(name) = cell_meant(names, cell.cell()) {
+            if !is_above(last, name) {
+                return false;
+            }
+            last = Some(name);
+        }
+    }
+    true
+}
+
+/// Whether two cells have one name.
 fn names_twice<S: CellStore>(
+    alloc: Global,
+    cells: &[S],
+    names: &NameTable<Name>,
+) -> Result<bool, Why>
+    ensures twice { IfOk result (λ b. b ≡ has_twice (names_meant names.now.named (map S.store.cell cells.now))) }
+    ensures err { IfErr result (λ why. why ≡ Memory) }
+{
+    if names_ascend(cells, names) {
+        return Ok(false);
+    }
+    name_again(alloc, cells, names)
+}
+
+/// The same, by a set of the names. It is ordered, so that no choice of names makes it slow.
+fn name_again<S: CellStore>(
     alloc: Global,
     cells: &[S],
     names: &NameTable<Name>,

@@ -6,8 +6,8 @@ use Rattle.oas_record.specs.declared.references.CellRef.{CellRef}
 use Rattle.oas_reader.specs.References.{cell_by}
 use Rattle.oas_reader.specs.Meaning.{names_meant, has_twice}
 use Rattle.oas_reader.proofs.Twice.{Seen, ref_cmp, seen_none, seen_some, seen_twice, one_cell, cells_split, was_there, was_new}
-use Rattle.oas_reader.proofs.accepting.names_twice.Goals as goal
-use Rattle.oas_reader.proofs.accepting.names_twice.Goals.{in-Some+in_ok-insert+else-not-branch, in_default}
+use Rattle.oas_reader.proofs.accepting.name_again.Goals as goal
+use Rattle.oas_reader.proofs.accepting.name_again.Goals.{in-Some+in_ok-insert+else-not-branch, in_default}
 
 pub returns-then-not-branch-clause-twice : goal.returns-then-not-branch-clause-twice
 returns-then-not-branch-clause-twice g c =
