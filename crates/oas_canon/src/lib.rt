@@ -41,13 +41,14 @@
 //! It combines oas_layout, oas_writing and oas_judge, and promises for whole runs what they promise for their parts. It has no
 //! reader and no writer of its own. `canonicalize`, `key` and `same_files` begin with `read_given` of oas_judge: a file that is
 //! canonical already is its own canonical form, so its bytes are written, hashed and compared as they are; of any other the
-//! layout is read, and `write_canonical`, `layout_key` and `Layout::same` follow. `is_canonical` is that of oas_judge. `rekey` is `read_judged` of oas_judge, which judges by profile one and keeps the layout by profile two,
-//! and then `write_canonical`.
+//! layout is read, and `write_canonical`, `layout_key` and `Layout::same` follow. `is_canonical` is that of oas_judge. `rekey` is
+//! `read_judged` of oas_judge, which judges by profile one and keeps the layout by profile two, and then `write_canonical`.
 //!
 //! - src/canonical.rt, checking.rt, sameness.rt, keys.rt, rekeying.rt: one call each. src/cell_keys.rt, specs/CellKeys.antt:
 //!   the keys of a layout and of its cells, by `put_canonical` and `put_cell_alone` into a sink that hashes.
-//!   src/named_keys.rt: the line of a cell's key. src/profile.rt: the profile of the first four (`PROFILE`, which is profile two). It is said nowhere else: their
-//!   contracts, and those of the command, refer to it. Re-keying names both profiles itself.
+//!   src/named_keys.rt: the line of a cell's key. src/profile.rt: the profile of the first four (`PROFILE`, which is profile
+//!   two). It is said nowhere else: their contracts, and those of the command, refer to it. Re-keying names both profiles
+//!   itself.
 //! - src/given.rt, specs/Given.antt: the canonical file of what was read, written, hashed and compared.
 //! - src/hashing.rt: a sink that hashes, a window of bytes at a time.
 //! - specs/Run.antt: what a run does, over two scripts and what the writer holds: `IsTaken` (an accepted file was taken to
@@ -67,8 +68,9 @@
 //!    law of oas_form. `Layout::same` says it for two layouts (`layouts_alike`).
 //! 4. *Exactly* is by cases on why a file was refused: what the bytes decided holds whatever follows; at the end of the input
 //!    nothing follows; a device that has not failed and a limit that isn't exceeded leave only the writer and the memory.
-//! 5. *Re-keying* (proofs/RekeyLemmas.antt). The layout that was read in the judge's pass is that of the bytes taken, so by 1 its canonical bytes by profile two are their canonical form (`rekeyed`). By oas_form's law
-//!    what is re-keyed is unchanged by re-keying (`stays`).
+//! 5. *Re-keying* (proofs/RekeyLemmas.antt). The layout that was read in the judge's pass is that of the bytes taken, so by 1
+//!    its canonical bytes by profile two are their canonical form (`rekeyed`). By oas_form's law what is re-keyed is unchanged
+//!    by re-keying (`stays`).
 #![tactic(auto)]
 
 mod canonical;
