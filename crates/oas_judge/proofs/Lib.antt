@@ -4,8 +4,6 @@ pub use Rattle.oas_writing.proofs.Judged
 pub use Rattle.oas_writing.proofs.Rekeying
 pub use Rattle.oas_writing.proofs.Written
 pub mod OwnLemmas
-mod KeptLemmas
-mod SpelledLemmas
 mod RightRecords
 mod JudgeSteps
 mod RecordSteps

@@ -18,11 +18,12 @@ use Rattle.oas_elements.specs.declared.profile.Profile.{Profile}
 use Rattle.oas_writing.specs.Standing.{MayRunOut}
 use Rattle.oas_writing.specs.Stores.{Store}
 use Rattle.oas_writing.specs.Stands.{ReaderState, Represents, refusal as refusal_of}
-use Rattle.oas_writing.specs.Deciding.{ForNext}
+use Rattle.oas_writing.specs.Deciding.{OutOfMemoryAt, ForNext}
 use Rattle.oas_writing.specs.Files.{PrefixOf}
 use Rattle.oas_writing.specs.Gathering.{inner_in, HasGathered, HasTaken}
 use Rattle.oas_writing.specs.Reading.{Refuses}
 use Rattle.oas_writing.proofs.Fronts.{allowed_more}
+use Rattle.oas_writing.proofs.Refusing.{ForMemory, judged_refused, memory_placed}
 use Rattle.oas_writing.proofs.SomePlaces.{record_long}
 use Rattle.oas_writing.proofs.Taking.{gather_fails, gather_refuses}
 use Rattle.oas_record.specs.Records.{record_in, IsInner}
@@ -35,7 +36,6 @@ use Rattle.oas_judge.specs.FileJudges.{holds, IsJudging, GoesOn, GoesOnBy, GoesO
 use Rattle.oas_judge.specs.Judged.{HasBegun, HasSeen, HasSeenAll, SeesMore, SeesRefused, SeesRefusedSo, SeesEnd}
 use Rattle.oas_judge.specs.Kept.{RefusesKept, RefusesNext}
 use Rattle.oas_judge.specs.Spelled.{NextTaken}
-use Rattle.oas_judge.proofs.KeptLemmas.{wants_memory}
 
 -- ---- entries
 
@@ -65,6 +65,12 @@ front_of {head = head} {start = start} entries begun each = record {
 -- a refusal of a reader is one here
 pub as_kept : {limits : Limits} {old new : Script} {refusal : Refusal} → Refuses limits old refusal new → RefusesKept limits old refusal new
 as_kept r = (r.0, r.1, inr r.2)
+
+-- out of memory after bytes that were taken
+wants_memory : (limits : Limits) (old new : Script) (bytes : List ℕ) (at : ℕ) → Consumed old bytes new → (old.given ≡ 0 → OutOfMemoryAt limits bytes at) →
+    RefusesKept limits old (record { at = at; why = Memory }) new
+wants_memory limits old new bytes at takes place =
+    (judged_refused bytes takes (ForMemory refl), memory_placed at Memory bytes takes refl, inl (record { reason = refl; bytes = bytes; takes = takes; place = place }))
 
 module _ {C : Type 0} {t : Store C} {profile : Profile} {head : Head} {now : Script} {first : ReaderState C} {j : FileJudge} (b : HasBegun t profile head now first j) where
   pub seen_none : HasSeen t profile head b.begun.start b.origin first now first j

@@ -1,31 +1,19 @@
--- What reading a part of a file and keeping its bytes does.
-use Rattle.std.specs.Prelude.{◌≡◌, ◌⊎◌, ℕ, Bool, List, Option, Ok}
+-- How reading a file refuses where its bytes are kept, part by part, or as a whole.
+use Rattle.std.specs.Prelude.{◌≡◌, ◌⊎◌, ℕ, Bool, List}
 use Rattle.oas_num.specs.declared.refusals.Why.TheVariants.{Memory}
 use Rattle.oas_num.specs.declared.refusals.Refusal.{Refusal}
-use Rattle.oas_num.specs.Reading.{ReadsValue, FailsPiece}
+use Rattle.oas_num.specs.Reading.{FailsPiece}
 use Rattle.oas_num.specs.Script.{Script, Consumed}
 use Rattle.oas_num.specs.Style.{Any}
-use Rattle.oas_record.specs.declared.heads.Head.{Head}
-use Rattle.oas_record.specs.declared.records.Record.{Record}
-use Rattle.oas_record.specs.Heads.{head_in}
 use Rattle.oas_record.specs.Records.{record_in}
 use Rattle.oas_record.specs.Refusals.{RecordTook}
 use Rattle.oas_elements.specs.declared.limits.Limits.{Limits}
 use Rattle.oas_writing.specs.Deciding.{HasNoMemory, IsReasoned}
-use Rattle.oas_writing.specs.Gathering.{ConsumesNext}
 use Rattle.oas_writing.specs.Reading.{IsRefused, IsPlaced}
 
 -- as reading refuses; but memory may run out for any byte, also where no bytes decide it
 abbrev pub RefusesKept : Limits → Script → Refusal → Script → Type 0
 RefusesKept limits old refusal new = IsRefused limits old refusal.why new × IsPlaced limits old refusal new × (HasNoMemory limits old refusal new ⊎ IsReasoned limits old refusal new)
-
--- the magic and START were read, and these bytes were taken
-abbrev pub HeadKept : Script → Head → List ℕ → Script → Type 0
-HeadKept old head kept new = ReadsValue (head_in Any) old head new × Consumed old kept new
-
--- a record was read, or END, and these bytes were taken
-abbrev pub NextKept : Bool → Script → Option Record → List ℕ → Script → Type 0
-NextKept in_end old next kept new = ConsumesNext in_end old (Ok next) new × Consumed old kept new
 
 -- some bytes were taken
 pub record ConsumesSome (old new : Script) : Type 0 where

@@ -13,8 +13,6 @@ pub use Rattle.oas_writing.specs.Listing
 pub use Rattle.oas_writing.specs.Putting
 pub use Rattle.oas_writing.specs.Reading
 pub mod Own
-pub mod Keeping
-pub mod KeptScripts
 pub mod Kept
 pub mod Spelled
 pub mod Candidates

@@ -5,8 +5,7 @@ ghost use Rattle.oas_judge.specs.Given.{ReadsGiven, Judges};
 
 use crate::joined::read_joined;
 use crate::judge::FileJudge;
-use crate::keeping::Start;
-use crate::kept::KeptSource;
+use crate::kept::{KeptSource, Start};
 use crate::parts::{Part, keep_parts};
 use oas_elements::{Limits, Profile};
 use oas_num::{Refusal, Source, Why};
@@ -81,7 +80,7 @@ fn read_given_named<'a, S: Source, K: Start>(
     ensures same { result.1.ghost_name ≡ source.entry.ghost_name }
     ensures read { ReadsGiven limits profile K.script result.0 (S.script result.1.now) }
 {
-    let mut keeping: KeptSource<'a, S, K> = KeptSource::new(alloc, source);
+    let mut keeping: KeptSource<'a, S, K> = KeptSource::new(Vec::new(alloc), source);
     let judged = judge_kept(alloc, &mut keeping, limits, profile);
     let (source, kept) = keeping.finish();
     let verdict = match judged {

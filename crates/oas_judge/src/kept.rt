@@ -3,15 +3,32 @@ ghost use Rattle.std.specs.Prelude.{◌≡◌, ◌≤◌, ◌++◌, ◌∷◌, [
 ghost use Rattle.oas_num.specs.Script.{Script, Consumed, since};
 ghost use Rattle.oas_judge.specs.Sources.{IsKept, IsKept-prop};
 
-use crate::keeping::Start;
 use oas_num::{Source, SourceFault};
-use std::alloc::Global;
-use std::marker::PhantomData;
+use std::marker::{Brand, PhantomData};
+
+/// Which source's bytes are kept, and where it was before the first of them. Each use chooses it.
+pub trait Start {
+    ghost use Rattle.oas_num.specs.Script.{Script};
+    ghost use base.Fml.{GName};
+
+    ghost script: { Script };
+
+    ghost name: { GName };
+}
+
+impl Start for Brand {
+    ghost use Rattle.std.specs.Prelude.{[]};
+    ghost use Rattle.oas_num.specs.Script.{slice_script};
+
+    ghost script = { slice_script [] 0 0 };
+
+    ghost name = { 0 };
+}
 
 /// The bytes of a borrowed source, which are kept as they are taken. It gives just what that source gives: where there is no
 /// memory to keep them it keeps none any more.
 #[derive(Drop)]
-pub(crate) struct KeptSource<'a, S: Source, K: Start> {
+pub struct KeptSource<'a, S: Source, K: Start> {
     source: &'a mut S,
     /// All bytes that were taken; None once there was no memory for some of them.
     kept: Option<Vec<u8>>,
@@ -19,6 +36,18 @@ pub(crate) struct KeptSource<'a, S: Source, K: Start> {
     first: u64,
     start: PhantomData<K>,
     ghost keeps: { IsKept K.script K.name source.ghost_name (S.script source.now) first (option_map (λ bytes. bytes.items) kept) } by { IsKept-prop K.script K.name source.ghost_name (S.script source.now) first (option_map (λ bytes. bytes.items) kept) },
+}
+
+/// How many bytes there is room for at first: enough for END, and for most other records.
+const ROOM: usize = 512;
+
+/// The same memory with nothing in it, and room for the bytes of most records; None where there is no memory for that.
+fn emptied(mut room: Vec<u8>) -> Option<Vec<u8>>
+    ensures { IfSome result (λ empty. empty.items ≡ []) }
+{
+    room.clear();
+    room.reserve(ROOM).ok()?;
+    Some(room)
 }
 
 /// Adds bytes to those that are kept, or keeps none any more where there is no memory for them.
@@ -36,8 +65,8 @@ fn keep(kept: &mut Option<Vec<u8>>, more: &[u8])
 }
 
 impl<'a, S: Source, K: Start> KeptSource<'a, S, K> {
-    /// All bytes that the source will still give. None was taken yet.
-    pub(crate) fn new(alloc: Global, source: &'a mut S) -> Self
+    /// Keeps the bytes that a source gives from now on, in this memory, in place of what was there.
+    pub fn new(room: Vec<u8>, source: &'a mut S) -> Self
         requires named { source.ghost_name ≡ K.name }
         requires starts { S.script source.old ≡ K.script }
         ensures { S.script result.source.now ≡ K.script }
@@ -45,14 +74,14 @@ impl<'a, S: Source, K: Start> KeptSource<'a, S, K> {
         let first = source.at();
         KeptSource {
             source,
-            kept: Some(Vec::new(alloc)),
+            kept: emptied(room),
             first,
             start: PhantomData,
         }
     }
 
     /// The bytes that were taken from an offset on; None where not all are kept.
-    pub(crate) fn since(&self, at: u64) -> Option<&[u8]>
+    pub fn since(&self, at: u64) -> Option<&[u8]>
         requires after { K.script.given ≤ at }
         requires before { at ≤ (S.script self.now.source.now).given }
         ensures { IfSome result (λ bytes. (mid : Script) (more : List ℕ) → at ≡ mid.given → Consumed K.script (since K.script mid) mid → Consumed mid more (S.script self.now.source.now) → bytes.now ≡ more) }
@@ -63,7 +92,7 @@ impl<'a, S: Source, K: Start> KeptSource<'a, S, K> {
     }
 
     /// The source, and all bytes that were taken from it; None where not all are kept.
-    pub(crate) fn finish(self) -> (&'a mut S, Option<Vec<u8>>)
+    pub fn finish(self) -> (&'a mut S, Option<Vec<u8>>)
         ensures same { result.0.ghost_name ≡ K.name }
         ensures now { result.0.now ≡ self.entry.source.now }
         ensures kept { IfSome result.1 (λ bytes. Consumed K.script bytes.items (S.script result.0.now)) }

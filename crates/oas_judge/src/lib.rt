@@ -10,6 +10,8 @@
 //!   specs/Kept.antt), at the offset of the current part (`HasNoMemory` of oas_file).
 //! - [`read_given`] returns the bytes of a file where these are a canonical form by the profile, and otherwise its layout
 //!   (`ReadsGiven`, specs/Given.antt). It refuses just as `read_layout` does.
+//! - [`KeptSource`] gives what another source gives, and keeps it: the bytes that were taken since it was made, or from an
+//!   offset on, unless there was no memory for them.
 //!
 //! A record in the shortest style gives all its fields, so what it draws is a function of the record alone (`own_drawn`,
 //! specs/Own.antt), and so is what it may be in a canonical file (`IsCandidate`, specs/Candidates.antt). Where coordinates
@@ -24,17 +26,16 @@
 //!   gives all its fields (`element_gives`).
 //! - src/candidates.rt: what a record may be in a canonical file: a CELL by its name, an element in its kept form, or
 //!   nothing.
-//! - src/keeping.rt: the bytes of a part of the file, by a source that keeps the bytes of another as it gives them. If there
-//!   is no memory for one more byte it fails like a device, and `reason` then returns `Memory` in place of `Read`. Its script
-//!   is that of the source below (`kept_script`, specs/KeptScripts.antt), except that it may fail. Its invariant is that the
-//!   source took just the bytes that are kept (`IsKeeping`), and that there is room for the next one. A contract can't name
-//!   what a borrow pointed to when the wrapper was made, so the wrapper has a type parameter (`Start`) that says which source
-//!   it is and where it was.
-//! - src/spelled.rt: the bytes that spell a record. For an unknown source `Consumed` gives a reader only the number of its
-//!   bytes; those of a slice are known, so they spell what is read from them. So a record is read from the slice of what the
-//!   source has at hand (`read_at_hand`, `ahead` of oas_bytes), and then as many bytes of it are taken (`skip`). Where it
-//!   can't be read there, mostly since the slice ends within it, the source gives its bytes through src/keeping.rt, and those
-//!   that were kept are read once more (`take_record_reread`); so is the head of a file. A try reads no byte after the
+//! - src/kept.rt, specs/Sources.antt: a source that keeps the bytes of another as it gives them. Its script is that of the
+//!   source below, so what is read from it is read from that source, and refused as it is there. If there is no memory for a
+//!   byte, nothing is kept any more and the read goes on. Its invariant is that the bytes that are kept are all that the source
+//!   gave since it was lent (`IsKept`). A contract can't name what a borrow pointed to when the wrapper was made, so the wrapper
+//!   has a type parameter (`Start`) that says which source it is and where it was.
+//! - src/spelled.rt: the bytes that spell a record. They are what a source's history has grown by (`Consumed` of oas_bytes), so
+//!   bytes that were kept while a record was read spell it. A record is read from the slice of what the source has at hand
+//!   (`read_at_hand`, `ahead` of oas_bytes), and then as many bytes of it are taken (`skip`), so that they are kept all at once.
+//!   Where it can't be read there, mostly since the slice ends within it, it is read from a source that keeps its bytes
+//!   (`take_record_named`); so is the head of a file. Where these weren't kept it is out of memory. A try reads no byte after the
 //!   record, and no record is tried twice. So however little a source has at hand, the tries read no more bytes than the file
 //!   has.
 //! - src/judge.rt: the judge of a file, a `FormJudge` of oas_form with the bytes of the latest part. src/records.rt: the
@@ -45,8 +46,8 @@
 //!   between the vertices of a plain list are that list). src/checking.rt: the two calls; the second
 //!   matches on the profile once, since the reader's stores have it as a type.
 //!
-//! - src/given.rt, src/parts.rt: a file that may be canonical is judged over counted cells, by a source that keeps its bytes
-//!   (src/kept.rt), until a record isn't as in a canonical file, or couldn't be judged for lack of memory. Then the layout is
+//! - src/given.rt, src/parts.rt: a file that may be canonical is judged over counted cells, by a source that keeps its bytes,
+//!   until a record isn't as in a canonical file, or couldn't be judged for lack of memory. Then the layout is
 //!   read from these bytes and from what the source still gives (src/joined.rt).
 //!
 //! Two things shape the last. A refusal says which of the bytes that were taken decided it, so where memory runs out while
@@ -71,7 +72,6 @@ mod figures;
 mod given;
 mod joined;
 mod judge;
-mod keeping;
 mod kept;
 mod named;
 mod own;
@@ -82,6 +82,7 @@ mod spelled;
 // The crates below, for those above.
 pub use checking::{is_canonical, read_judged};
 pub use given::{Given, read_given};
+pub use kept::{KeptSource, Start};
 pub use oas_writing::{
     ByProfileOne, ByProfileTwo, Cells, CompactCell, Draft, Elements, FormJudge, KeptBy,
     KeyedElement, Layout, Refused, ShownElement, ShownPoints, file_laws, find_end_of_input,

@@ -6,8 +6,7 @@ ghost use Rattle.oas_judge.specs.FileJudges.{holds};
 ghost use Rattle.oas_judge.specs.Parts.{KeepsOne, KeepsAtHand, KeepsParts};
 
 use crate::judge::FileJudge;
-use crate::keeping::Start;
-use crate::kept::KeptSource;
+use crate::kept::{KeptSource, Start};
 use crate::records::next_at_hand;
 use oas_num::{Refusal, Source};
 use oas_record::Head;

@@ -1,8 +1,7 @@
 //! The parts of a file with the bytes that spell them.
 //!
-//! For a source that isn't known beforehand no contract says which bytes were taken, only how many; for bytes in memory all
-//! is known. So a record is read from the bytes that its source has at hand, and then as many of these are taken. Where they
-//! don't spell it the source gives them one by one, and those that were kept are read once more, from memory.
+//! A record is read from the bytes that its source has at hand, and then as many of these are taken. Where they don't spell it,
+//! mostly since they end within it, it is read from a source that keeps its bytes; so is the head of a file.
 ghost use Rattle.std.specs.Prelude.{◌≡◌, ◌≤◌, length, take, IfOk, IfErr, IfSome, OnSome};
 ghost use Rattle.oas_num.specs.Script.{Consumed};
 ghost use Rattle.oas_num.specs.Style.{Any};
@@ -11,26 +10,12 @@ ghost use Rattle.oas_elements.specs.declared.limits.Limits.{Limits};
 ghost use Rattle.oas_judge.specs.Kept.{RefusesKept, RefusesNext};
 ghost use Rattle.oas_judge.specs.Spelled.{NextIs, FirstIs};
 
-use crate::keeping::{read_head_kept, take_record_kept};
+use crate::kept::{KeptSource, Start};
 use oas_num::{Refusal, SliceSource, Source, Why};
 use oas_record::{Head, Record, read_head};
 use oas_writing::take_record;
 use std::alloc::Global;
-
-/// The head of a file that is spelled by all of these bytes. None if out of memory, or they spell none.
-fn head_of(alloc: Global, bytes: &[u8]) -> Option<Head>
-    ensures { IfSome result (λ head. head_in Any head bytes.now) }
-{
-    let mut source = SliceSource::new(bytes, bytes.len() as u64);
-    let Ok(head) = read_head(alloc, &mut source) else {
-        return None;
-    };
-    if source.at() == bytes.len() as u64 {
-        Some(head)
-    } else {
-        None
-    }
-}
+use std::marker::Brand;
 
 /// The record, or None for END, that the first of these bytes spell, and how many of them. None if out of memory, or they
 /// spell none.
@@ -44,20 +29,7 @@ fn first_of(alloc: Global, bytes: &[u8], flag_in_end: bool) -> Option<(Option<Re
     Some((next, source.at() as usize))
 }
 
-/// The record, or None for END, that is spelled by all of these bytes. None if out of memory, or they spell none.
-fn next_of(alloc: Global, bytes: &[u8], flag_in_end: bool) -> Option<Option<Record>>
-    ensures { IfSome result (λ next. NextIs flag_in_end next bytes.now) }
-{
-    let (next, count) = first_of(alloc, bytes, flag_in_end)?;
-    if count == bytes.len() {
-        Some(next)
-    } else {
-        None
-    }
-}
-
 /// Reads the head of a file, and returns the bytes that spell it too, in the memory that it is handed.
-#[tactic(auto, using(crate::proofs::KeptLemmas::wants_first))]
 pub(crate) fn read_head_spelled<S: Source>(
     alloc: Global,
     source: &mut S,
@@ -67,15 +39,39 @@ pub(crate) fn read_head_spelled<S: Source>(
     ensures takes { IfOk result (λ read. Consumed (S.script source.old) read.1.items (S.script source.new)) }
     ensures refused { IfErr result (λ refusal. (limits : Limits) → RefusesKept limits (S.script source.old) refusal (S.script source.new)) }
 {
+    let (read, _source) = read_head_named::<S, Brand>(alloc, source, room);
+    read
+}
+
+/// The same, for the source that is named. It hands the borrow back, so that its lender knows it as its own.
+fn read_head_named<'a, S: Source, K: Start>(
+    alloc: Global,
+    source: &'a mut S,
+    room: Vec<u8>,
+) -> (Result<(Head, Vec<u8>), Refusal>, &'a mut S)
+    requires named { source.ghost_name ≡ K.name }
+    requires starts { S.script source.old ≡ K.script }
+    ensures same { result.1.ghost_name ≡ source.entry.ghost_name }
+    ensures spelled { IfOk result.0 (λ read. head_in Any read.0 read.1.items) }
+    ensures takes { IfOk result.0 (λ read. Consumed (S.script source.old) read.1.items (S.script result.1.now)) }
+    ensures refused { IfErr result.0 (λ refusal. (limits : Limits) → RefusesKept limits (S.script source.old) refusal (S.script result.1.now)) }
+{
     let at = source.at();
-    let (_, bytes) = read_head_kept(alloc, source, room)?;
-    match head_of(alloc, &bytes) {
-        Some(head) => Ok((head, bytes)),
-        None => Err(Refusal {
+    let mut keeping: KeptSource<'a, S, K> = KeptSource::new(room, source);
+    let outcome = read_head(alloc, &mut keeping);
+    let (source, kept) = keeping.finish();
+    let head = match outcome {
+        Ok(head) => head,
+        Err(refusal) => return (Err(refusal), source),
+    };
+    let Some(bytes) = kept else {
+        let refusal = Refusal {
             at,
             why: Why::Memory,
-        }),
-    }
+        };
+        return (Err(refusal), source);
+    };
+    (Ok((head, bytes)), source)
 }
 
 /// Reads the next record, or END, from the bytes that a source has at hand, and puts those that spell it into the room, in
@@ -117,29 +113,40 @@ pub(crate) fn take_record_spelled<S: Source>(
         source.skip(room.len());
         return Ok((next, room));
     }
-    take_record_reread(alloc, source, flag_in_end, room)
+    let (read, _source) = take_record_named::<S, Brand>(alloc, source, flag_in_end, room);
+    read
 }
 
-/// The same, for any bytes: they are kept as the source gives them, and read once more.
+/// The same, for any bytes of the source that is named: they are kept as it gives them.
 #[cold]
 #[inline(never)]
-fn take_record_reread<S: Source>(
+fn take_record_named<'a, S: Source, K: Start>(
     alloc: Global,
-    source: &mut S,
+    source: &'a mut S,
     flag_in_end: bool,
     room: Vec<u8>,
-) -> Result<(Option<Record>, Vec<u8>), Refusal>
-    ensures spelled { IfOk result (λ read. NextIs flag_in_end read.0 read.1.items) }
-    ensures takes { IfOk result (λ read. Consumed (S.script source.old) read.1.items (S.script source.new)) }
-    ensures refused { IfErr result (λ refusal. RefusesNext flag_in_end (S.script source.old) refusal (S.script source.new)) }
+) -> (Result<(Option<Record>, Vec<u8>), Refusal>, &'a mut S)
+    requires named { source.ghost_name ≡ K.name }
+    requires starts { S.script source.old ≡ K.script }
+    ensures same { result.1.ghost_name ≡ source.entry.ghost_name }
+    ensures spelled { IfOk result.0 (λ read. NextIs flag_in_end read.0 read.1.items) }
+    ensures takes { IfOk result.0 (λ read. Consumed (S.script source.old) read.1.items (S.script result.1.now)) }
+    ensures refused { IfErr result.0 (λ refusal. RefusesNext flag_in_end (S.script source.old) refusal (S.script result.1.now)) }
 {
     let at = source.at();
-    let (_, bytes) = take_record_kept(alloc, source, flag_in_end, room)?;
-    match next_of(alloc, &bytes, flag_in_end) {
-        Some(next) => Ok((next, bytes)),
-        None => Err(Refusal {
+    let mut keeping: KeptSource<'a, S, K> = KeptSource::new(room, source);
+    let outcome = take_record(alloc, &mut keeping, flag_in_end);
+    let (source, kept) = keeping.finish();
+    let next = match outcome {
+        Ok(next) => next,
+        Err(refusal) => return (Err(refusal), source),
+    };
+    let Some(bytes) = kept else {
+        let refusal = Refusal {
             at,
             why: Why::Memory,
-        }),
-    }
+        };
+        return (Err(refusal), source);
+    };
+    (Ok((next, bytes)), source)
 }

@@ -1,4 +1,4 @@
-use Rattle.oas_judge.proofs.keeping.take_record_kept.Given as goal
+use Rattle.oas_judge.proofs.spelled.take_record_spelled.Given as goal
 
 -- the source as it is passed
 abbrev pub ghosts-take_record_named : goal.ghosts-take_record_named

@@ -1,4 +1,4 @@
-use Rattle.oas_judge.proofs.keeping.read_head_kept.Given as goal
+use Rattle.oas_judge.proofs.spelled.read_head_spelled.Given as goal
 
 -- the source as it is passed
 abbrev pub ghosts-read_head_named : goal.ghosts-read_head_named

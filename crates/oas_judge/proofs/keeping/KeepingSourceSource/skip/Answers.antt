@@ -1,5 +1,0 @@
-use Rattle.oas_num.proofs.ReadLemmas.{Consumed-nothing}
-use Rattle.oas_judge.proofs.keeping.KeepingSourceSource.skip.Goals as goal
-
-pub returns : goal.returns
-returns g c = Consumed-nothing _ _ c.requires
