@@ -1,4 +1,4 @@
--- The sums of what a source gave, after one more byte.
+-- The sums of what a source gave, after more bytes.
 use Rattle.std.proofs.Common.{◌≡◌, ℕ, List, [], ◌∷◌, ◌++◌, Option, Some, Ok, sym, subst}
 use base.Fml.{GName}
 use Rattle.oas_bytes.specs.Script.{Script, since, Consumed, Next}

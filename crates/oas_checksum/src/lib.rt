@@ -6,10 +6,10 @@
 //! - [`Crc32`] is scheme 1, the CRC-32 of ISO 3309. After any bytes, put piece by piece, its value is the remainder of the
 //!   division of polynomials that specs/Crc.antt defines bit by bit, without a table.
 //! - [`Sum32`] is scheme 2, CHECKSUM32: the sum of the bytes, modulo 2^32. [`Sums`] are both.
-//! - A [`SummedSource`] gives just what the source below it gives, with the same script. Whatever a read through it says
-//!   holds for that source. Its [`Sums`] are those of the bytes that were taken since it was made, all but the last four
-//!   (`IsSummed`, specs/Summing.antt). So after a whole file they are those of which its signature would be (`signed`,
-//!   specs/Signed.antt).
+//! - A [`SummedSource`] gives just what the source below it gives, with the same script and the same bytes at hand. Whatever
+//!   a read through it says holds for that source. Its [`Sums`] are those of the bytes that were taken since it was made, all
+//!   but the last four (`IsSummed`, specs/Summing.antt). So after a whole file they are those of which its signature would be
+//!   (`signed`, specs/Signed.antt).
 //! - Laws (module [`laws`]): the remainder is the whole message modulo the polynomial ([`laws::remainder`]).
 //!
 //! Each byte costs one look-up in a table of 256 numbers; each entry is proved to be what the division makes of that byte.

@@ -43,6 +43,15 @@ impl SignedSums {
         }
     }
 
+    /// Adds more bytes.
+    pub(crate) fn update(&mut self, more: &[u8])
+        ensures { (bytes : List ℕ) → AreSigned self.old bytes → AreSigned self.new (bytes ++ more.now) }
+    {
+        for byte in more {
+            self.push(*byte);
+        }
+    }
+
     /// The sums of all bytes except the last four.
     pub fn before(self) -> Sums
         ensures { (bytes : List ℕ) → AreSigned self bytes → AreSums result (signed bytes) }

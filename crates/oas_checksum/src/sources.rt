@@ -67,12 +67,9 @@ impl<'a, S: Source, K: Start> SummedSource<'a, S, K> {
 }
 
 impl<'a, S: Source, K: Start> Source for SummedSource<'a, S, K> {
-    ghost use Rattle.std.specs.Prelude.{[]};
-
     ghost script = { λ s. S.script s.source.now };
 
-    // None, since each byte is summed up as it is taken.
-    ghost at_hand = { λ _. [] };
+    ghost at_hand = { λ s. S.at_hand s.source.now };
 
     fn next(&mut self) -> Result<Option<u8>, SourceFault> {
         let next = self.source.next()?;
@@ -87,8 +84,11 @@ impl<'a, S: Source, K: Start> Source for SummedSource<'a, S, K> {
     }
 
     fn ahead(&self) -> &[u8] {
-        &[]
+        self.source.ahead()
     }
 
-    fn skip(&mut self, _count: usize) {}
+    fn skip(&mut self, count: usize) {
+        self.sums.update(&self.source.ahead()[..count]);
+        self.source.skip(count);
+    }
 }

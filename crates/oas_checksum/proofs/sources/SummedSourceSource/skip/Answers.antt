@@ -1,5 +1,5 @@
-use Rattle.oas_bytes.proofs.ScriptLemmas.{Consumed-nothing}
+use Rattle.oas_checksum.proofs.SummingLemmas.{summed_then}
 use Rattle.oas_checksum.proofs.sources.SummedSourceSource.skip.Goals as goal
 
-pub returns : goal.returns
-returns g c = Consumed-nothing _ _ c.requires
+pub invariant_of-self : goal.invariant_of-self
+invariant_of-self g c = record { summed = summed_then _ _ c.args.self.now.summed c.skip.ensures (rw c.ahead.ensures at c.update.ensures) }
