@@ -7,6 +7,7 @@ pub mod ResolvedLemmas
 pub mod WideLaws
 pub mod Items
 pub mod Fronts
+pub mod AtHand
 pub mod Refusing
 pub mod Reasons
 pub mod Gathered

@@ -31,6 +31,7 @@ pub mod Reasons
 pub mod Run
 pub mod Heads
 pub mod Inside
+pub mod Peeking
 pub mod Gathering
 pub mod Signing
 pub mod Finishing

@@ -3,6 +3,7 @@ ghost use Rattle.oas_prepare.specs.Gathering.{ConsumesNext, Gathers, GathersFile
 
 use crate::heads::read_wide_head;
 use crate::inside::take_block;
+use crate::peeking::peek_record;
 use crate::taking::Preparation;
 use oas_canon::find_end_of_input;
 use oas_elements::{Limits, Profile};
@@ -29,7 +30,7 @@ pub(crate) struct Gathered<R> {
     pub(crate) end: WideEnd,
 }
 
-/// Takes the next record.
+/// Takes the next record: a rectangle, a placement, a text, a polygon or a path at hand the faster way.
 pub(crate) fn take_next<S: Source>(
     alloc: Global,
     source: &mut S,
@@ -37,6 +38,10 @@ pub(crate) fn take_next<S: Source>(
 ) -> Result<Next, WideRefusal>
     ensures { ConsumesNext flag_in_end (S.script source.old) result (S.script source.new) }
 {
+    if let Some(found) = peek_record(alloc, source.ahead()) {
+        source.skip(found.length);
+        return Ok(Next::Record(WideRecord::Profile(found.next)));
+    }
     match WideRecord::read(alloc, source, flag_in_end)? {
         WideRecord::End(end) => Ok(Next::End(end)),
         WideRecord::Block(head) => Ok(Next::Block(head)),

@@ -30,6 +30,9 @@
 //!   what is counted; it represents a list of the standard's records (`Stands`).
 //! - src/gathering.rt: the loop over the records. proofs/Fronts.antt, Refusing.antt, Gathered.antt and Ending.antt correspond
 //!   to the files of the same kind in oas_file, whose records are those of the profile.
+//! - src/peeking.rt: a rectangle, a placement, a text, a polygon or a path without a repetition that the source has at hand is
+//!   read by oas_peek, and then its bytes are skipped. What spells a record of the profile spells that record among those of
+//!   the standard (`laws::records` of oas_standard), so it is what the slower read would return (proofs/AtHand.antt).
 //! - src/inside.rt: a block. Its data are read into memory, at most 2^30 bytes of them, and their records are taken from
 //!   there as those of the file are from its source (proofs/Inner.antt and InnerStops.antt). Only a run of PADs is taken at
 //!   once: proofs/Pads.antt says that a PAD changes nothing, Runs.antt where a run begins. Then its place is put before
@@ -48,6 +51,7 @@ mod gathering;
 mod heads;
 mod inside;
 pub mod laws;
+mod peeking;
 mod preparing;
 mod signing;
 mod taking;
