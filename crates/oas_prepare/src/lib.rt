@@ -60,7 +60,7 @@ mod units;
 // The crates below, for those above.
 
 pub use oas_canon::{
-    Layout, Limits, PROFILE, Refusal, Sink, SinkFault, SliceSource, Which, Why,
+    KeptSource, Layout, Limits, PROFILE, Refusal, Sink, SinkFault, SliceSource, Start, Which, Why,
     has_canonical_bytes, key, put_canonical, put_cell_keys, put_listing, read_layout,
 };
 pub use oas_narrow::{Dropping, Extra, Place, Rejection, Report, WideWhy};

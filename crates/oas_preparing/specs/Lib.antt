@@ -4,5 +4,4 @@ pub mod Lines
 pub mod Runs
 pub mod Answers
 pub mod Sameness
-pub mod Keeping
 pub mod Checks

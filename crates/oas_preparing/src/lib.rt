@@ -40,10 +40,10 @@
 //!   equal exactly if they are the same is proved in oas_prepare (proofs/Sameness.antt).
 //! - src/checks.rt: the bytes of a file are compared with the canonical ones of the layout that it was read to, as these are
 //!   made (`has_canonical_bytes` of oas_writing). src/keeping.rt: the file is read through a source that keeps the bytes as they
-//!   are taken (`IsKept`, specs/Keeping.antt). It has the script of the source below, so the read stops as it would without
-//!   it. If there is no memory for a byte, nothing is kept any more and the read goes on: a file that isn't prepared is
-//!   refused for its own reason, and one that is, as out of memory at END. That may happen to each file that is prepared, so
-//!   the contract needs no case for it; END is the last 256 bytes (proofs/EndLemmas.antt).
+//!   are taken (`KeptSource` of oas_judge). It has the script of the source below, so the read stops as it would without it.
+//!   If there is no memory for a byte, nothing is kept any more and the read goes on: a file that isn't prepared is refused
+//!   for its own reason, and one that is, as out of memory at END. That may happen to each file that is prepared, so the
+//!   contract needs no case for it; END is the last 256 bytes (proofs/EndLemmas.antt).
 //!
 //! `oasprep` has its words in src/usage.rt (`parse`), and `main` opens the streams, as oascanon's does. Its profile is
 //! `PROFILE` of oas_canon, which is that of the first command. What each run is given in addition to its files is the `Session`
