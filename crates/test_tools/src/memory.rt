@@ -68,10 +68,12 @@ impl Hoard {
     pub fn new(alloc: Global) -> Result<Hoard, AllocError> {
         let mut pieces = Vec::with_capacity(alloc, MOST_PIECES)?;
         let mut rest = Vec::with_capacity(alloc, MOST_OTHERS)?;
-        let mut rooms = Vec::with_capacity(alloc, ROOMS)?;
-        take_pieces(alloc, ROOM, &mut rooms);
+        for _ in 0..ROOMS {
+            let _ = pieces.push(Vec::with_capacity(alloc, ROOM)?);
+        }
         fill(alloc, LARGEST, &mut rest);
-        drop(rooms);
+        // The rooms alone are free then: the list that they were in keeps its own memory.
+        pieces.clear();
         fill(alloc, SMALLEST, &mut pieces);
         let is_full = Vec::<u8>::with_capacity(alloc, SMALLEST).is_err();
         if !is_full {
