@@ -21,6 +21,7 @@
 //! - src/readers.rt: the bytes `start .. end` of the window may be given, the bytes `end .. filled` are after the limit, and
 //!   `before` bytes were given before the window. Once the end is found no byte waits (`WaitsOnly`), so `next` looks at it
 //!   only when the window is used up. proofs/ReaderLemmas.antt: `HasNext` is the state with a byte at hand.
+//! - src/starts.rt: what a source that borrows another one knows of it in its invariant (`Start`).
 //! - src/sinks.rt: the trait and the counter. specs/Writing.antt: `Puts` (all was put), `PutsPrefix` (a prefix was put and
 //!   the sink has failed), `Writes` (by cases on the result). `Puts.after` says: whatever was given from a state to the old
 //!   one was given to the new one, followed by these bytes. So writers compose without any law of the sink: `Puts-none`,
@@ -45,6 +46,7 @@ mod readers;
 mod sinks;
 mod slices;
 mod sources;
+mod starts;
 mod windows;
 
 pub use devices::Device;
@@ -55,3 +57,4 @@ pub use readers::{Ending, ReaderSource};
 pub use sinks::{Counter, Sink, SinkFault};
 pub use slices::SliceSource;
 pub use sources::{INPUT_MAX, Source, SourceFault};
+pub use starts::Start;

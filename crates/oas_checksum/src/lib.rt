@@ -22,7 +22,7 @@
 //!   the table, plus the rest of the register, shifted. The table is the definition, computed. proofs/DivisionLemmas.antt
 //!   composes divisions (`divided_then`), from a bit to a message.
 //! - src/sources.rt: `SummedSource` has the script of the source below, so a read through it needs no contract of its own.
-//!   Its sums are part of its invariant, together with where the source was when it was made (`Start`).
+//!   Its sums are part of its invariant, together with where the source was when it was made (`Start` of oas_bytes).
 //! - Which bytes are a file's last four is known only at the end, so `SignedSums` (src/signing.rt) holds the last four bytes
 //!   (`LastFour`, in one number) and sums up the bytes that they push out.
 #![tactic(auto)]
@@ -39,5 +39,5 @@ mod table;
 pub use byte_sums::Sum32;
 pub use crc::Crc32;
 pub use signing::SignedSums;
-pub use sources::{Start, SummedSource};
+pub use sources::SummedSource;
 pub use sums::Sums;

@@ -7,27 +7,8 @@ ghost use Rattle.oas_checksum.specs.Summing.{IsSummed, IsSummed-prop};
 
 use crate::signing::SignedSums;
 use crate::sums::Sums;
-use oas_bytes::{Source, SourceFault};
-use std::marker::{Brand, PhantomData};
-
-/// Which source is summed up, and where it was before the first of its bytes. Each use chooses it.
-pub trait Start {
-    ghost use Rattle.oas_bytes.specs.Script.{Script};
-    ghost use base.Fml.{GName};
-
-    ghost script: { Script };
-
-    ghost name: { GName };
-}
-
-impl Start for Brand {
-    ghost use Rattle.std.specs.Prelude.{[]};
-    ghost use Rattle.oas_bytes.specs.Script.{slice_script};
-
-    ghost script = { slice_script [] 0 0 };
-
-    ghost name = { 0 };
-}
+use oas_bytes::{Source, SourceFault, Start};
+use std::marker::PhantomData;
 
 /// The bytes of a borrowed source, with the sums of those that were taken, except the last four.
 #[derive(Drop)]

@@ -85,7 +85,7 @@ pub use labels::Label;
 pub use names::Name;
 pub use oas_bytes::{
     Counter, Device, Ending, History, INPUT_MAX, NotedWriter, Outlet, ReaderSource, Sink,
-    SinkFault, SliceSource, Source, SourceFault,
+    SinkFault, SliceSource, Source, SourceFault, Start,
 };
 pub use padding::Padding;
 pub use reals::Real;

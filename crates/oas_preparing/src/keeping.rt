@@ -8,8 +8,8 @@ ghost use Rattle.oas_prepare.specs.Run.{Stops};
 
 use oas_elements::Limits;
 use oas_explain::{Layout, PROFILE};
-use oas_num::Source;
-use oas_prepare::{Dropping, KeptSource, Rejection, Report, Start, read_prepared};
+use oas_num::{Source, Start};
+use oas_prepare::{Dropping, KeptSource, Rejection, Report, read_prepared};
 use std::alloc::Global;
 use std::marker::Brand;
 

@@ -2,8 +2,8 @@
 //! and one isn't taken. Some are taken one by one, and others that are at hand at once.
 ghost use Rattle.std.specs.Prelude.{◌≡◌};
 
-use oas_checksum::{Start, SummedSource, Sums};
-use oas_num::{SliceSource, Source};
+use oas_checksum::{SummedSource, Sums};
+use oas_num::{SliceSource, Source, Start};
 use std::marker::Brand;
 use std::test::Fail;
 
