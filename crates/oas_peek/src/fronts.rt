@@ -82,6 +82,9 @@ impl<'a> Front<'a> {
     }
 
     /// Takes the bytes of a number after its first one, up to eight of them, so that it is below 2^63.
+    ///
+    /// It is inlined with its loop, which is then unrolled, and what is left of the bytes stays in registers.
+    #[inline(always)]
     fn longer(&mut self, first: u8) -> Option<u64>
         requires { 128 ≤ first }
         ensures { IfSome result (λ n. ConsumesPrefix number n (behind first self.old) self.new) }
@@ -101,7 +104,7 @@ impl<'a> Front<'a> {
     }
 
     /// Takes an unsigned number of at most nine bytes (SEMI P39, Unsigned integers).
-    #[inline]
+    #[inline(always)]
     pub(crate) fn unsigned(&mut self) -> Option<u64>
         ensures { IfSome result (λ n. ConsumesPrefix number n self.old self.new) }
     {
@@ -113,21 +116,23 @@ impl<'a> Front<'a> {
     }
 
     /// Takes a signed number of at most nine bytes (SEMI P39, Signed integers). Minus zero isn't the shortest zero.
-    #[inline]
+    #[inline(always)]
     pub(crate) fn signed(&mut self) -> Option<i64>
         ensures { IfSome result (λ z. ConsumesPrefix signed z self.old self.new) }
     {
         let coded = self.unsigned()?;
         let magnitude = (coded / 2) as i64;
-        if coded % 2 == 0 {
-            return Some(magnitude);
-        }
         self.note(coded != 1);
-        Some(-magnitude)
+        // Only the value depends on the sign, so that no jump is guessed wrongly.
+        if coded % 2 == 0 {
+            Some(magnitude)
+        } else {
+            Some(-magnitude)
+        }
     }
 
     /// Takes an unsigned number, where there is one.
-    #[inline]
+    #[inline(always)]
     pub(crate) fn unsigned_if(&mut self, here: bool) -> Option<Option<u64>>
         ensures { IfSome result (λ n. ConsumesPrefix (there here number) n self.old self.new) }
     {
@@ -139,7 +144,7 @@ impl<'a> Front<'a> {
     }
 
     /// Takes a signed number, where there is one.
-    #[inline]
+    #[inline(always)]
     pub(crate) fn signed_if(&mut self, here: bool) -> Option<Option<i64>>
         ensures { IfSome result (λ z. ConsumesPrefix (there here signed) z self.old self.new) }
     {

@@ -19,9 +19,11 @@
 //! # How it is built
 //!
 //! - src/fronts.rt: the bytes that are left, and whether all before them was in the shortest style (`Front`). A number has at
-//!   most nine bytes here, so it is below 2^63.
-//! - src/rectangles.rt: a rectangle without a repetition, field by field. Its proof is one lemma for each way in which a kind
-//!   is made of parts (`pair_takes`, `none_takes`, `image_takes`, proofs/FrontLemmas.antt), over the trees of oas_record.
+//!   most nine bytes here, so it is below 2^63. Reading one is inlined wherever it is used, so that its loop is unrolled.
+//! - src/rectangles.rt: a rectangle without a repetition, field by field. One that gives all its fields, as in canonical
+//!   files, is compiled apart from the others, so that no bit of its info byte is tested. Its proof is one lemma for each way
+//!   in which a kind is made of parts (`pair_takes`, `none_takes`, `image_takes`, proofs/FrontLemmas.antt), over the trees of
+//!   oas_record.
 //!
 //! - src/named.rt: a placement or a text without a repetition. The bytes of its name are borrowed, not copied. They are
 //!   checked last, since only those of a name, or of a string, are returned.

@@ -80,7 +80,7 @@ pub struct PeekedNamed<'a> {
 }
 
 /// A cell or a string, where there is one, by its number or itself.
-#[inline]
+#[inline(always)]
 fn take_given<'a>(front: &mut Front<'a>, here: bool, numbered: bool) -> Option<Given<'a>>
     ensures { IfSome result (λ given. ConsumesGiven here numbered given front.old front.new) }
 {

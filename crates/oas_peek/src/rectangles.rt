@@ -33,7 +33,7 @@ fn is_once(info: u8) -> bool
 }
 
 /// Layer and datatype, each where it is given.
-#[inline]
+#[inline(always)]
 pub(crate) fn take_layers(front: &mut Front<'_>, info: u8) -> Option<(Option<u64>, Option<u64>)>
     ensures { IfSome result (λ both. ConsumesPrefix (layers info) both front.old front.new) }
 {
@@ -43,7 +43,7 @@ pub(crate) fn take_layers(front: &mut Front<'_>, info: u8) -> Option<(Option<u64
 }
 
 /// x and y, each where it is given.
-#[inline]
+#[inline(always)]
 fn take_spot(front: &mut Front<'_>, info: u8) -> Option<Spot>
     requires { IsOnceInfo info }
     ensures { IfSome result (λ at. ConsumesPrefix (spot (has info 16) (has info 8) (has info 4)) at front.old front.new × (at.repetition ≡ None)) }
@@ -58,7 +58,7 @@ fn take_spot(front: &mut Front<'_>, info: u8) -> Option<Spot>
 }
 
 /// The fields of a rectangle, after its info byte.
-#[inline]
+#[inline(always)]
 fn take_fields(front: &mut Front<'_>, info: u8) -> Option<Rectangle>
     requires { IsOnceInfo info }
     ensures { IfSome result (λ drawn. ConsumesFields info drawn front.old front.new) }
@@ -77,17 +77,16 @@ fn take_fields(front: &mut Front<'_>, info: u8) -> Option<Rectangle>
     })
 }
 
-/// The rectangle that the bytes begin with, where it has no repetition and each of its numbers has at most nine bytes. None
-/// also where the bytes end before it does, or begin with anything else.
-pub fn peek_rectangle(bytes: &[u8]) -> Option<PeekedRectangle>
+/// The rectangle that the bytes begin with, where it has that info byte.
+///
+/// It is inlined, so that no bit of a constant info byte is tested.
+#[inline(always)]
+fn peek_with(bytes: &[u8], info: u8) -> Option<PeekedRectangle>
+    requires { IsOnceInfo info }
     ensures { IfSome result (λ ahead. IsPeeked bytes.now ahead) }
 {
     let mut front = Front::of(bytes);
-    if front.byte()? != RECTANGLE {
-        return None;
-    }
-    let info = front.byte()?;
-    if !is_once(info) {
+    if front.byte()? != RECTANGLE || front.byte()? != info {
         return None;
     }
     let rectangle = take_fields(&mut front, info)?;
@@ -97,4 +96,30 @@ pub fn peek_rectangle(bytes: &[u8]) -> Option<PeekedRectangle>
         length: bytes.len() - front.left().len(),
         shortest: front.is_shortest(),
     })
+}
+
+/// The same of a rectangle that leaves out some fields.
+#[inline(never)]
+fn peek_partly(bytes: &[u8], info: u8) -> Option<PeekedRectangle>
+    requires { IsOnceInfo info }
+    ensures { IfSome result (λ ahead. IsPeeked bytes.now ahead) }
+{
+    peek_with(bytes, info)
+}
+
+/// The rectangle that the bytes begin with, where it has no repetition and each of its numbers has at most nine bytes. None
+/// also where the bytes end before it does, or begin with anything else.
+pub fn peek_rectangle(bytes: &[u8]) -> Option<PeekedRectangle>
+    ensures { IfSome result (λ ahead. IsPeeked bytes.now ahead) }
+{
+    let [RECTANGLE, info, ..] = bytes else {
+        return None;
+    };
+    if *info == ALL_FIELDS {
+        return peek_with(bytes, ALL_FIELDS);
+    }
+    if !is_once(*info) {
+        return None;
+    }
+    peek_partly(bytes, *info)
 }
