@@ -5,6 +5,7 @@ pub use Rattle.oas_keys.specs.Reading
 pub use Rattle.oas_keys.specs.declared.points.SpelledPoints
 pub use Rattle.oas_run_store.specs.Laws.TallyLaws
 pub use Rattle.oas_run_store.specs.Tally
+pub mod Forms
 pub mod Short
 pub mod Compact
 pub mod Weighing

@@ -13,22 +13,29 @@ ghost use Rattle.oas_elements.specs.Weight.{lacks_points};
 ghost use Rattle.oas_keys.specs.Keys.{key_of};
 ghost use Rattle.oas_runs.specs.Runs.{IsRun};
 
+use crate::filling::Filling;
 use oas_elements::{Element, Profile, Turns};
-use oas_keys::{put_key, put_placement_key, put_text_key};
 use oas_num::{Label, Name};
-use oas_run_store::KeyStore;
-use oas_runs::Run;
+use oas_runs::{Block, Run};
 use std::alloc::{AllocError, Global};
 use std::marker::Model;
+use std::mem;
 
 /// Distinct elements with their counts, each in the form in which a profile keeps it. Elements are added in any order; contracts
-/// see the ascending list of their keys with counts.
+/// see the ascending list of their keys with counts. Few elements take little more memory than their keys while none is added.
 #[derive(Drop)]
 pub struct ElementStore {
     alloc: Global,
-    keys: KeyStore,
-    /// The key that is being added, so that none needs memory of its own.
-    key: Vec<u8>,
+    form: Form,
+}
+
+/// How keys are held.
+#[derive(Drop)]
+pub(crate) enum Form {
+    /// Ascending, in one block, until an element is added.
+    Closed(Block),
+    /// In any order.
+    Open(Box<Filling>),
 }
 
 impl Model for ElementStore {
@@ -37,7 +44,11 @@ impl Model for ElementStore {
 
     ghost Value = { List Entry };
 
-    ghost view = { λ a. a.keys };
+    ghost use Rattle.oas_cells.specs.Forms.{keys_in, IsForm};
+
+    ghost view = { λ a. keys_in a.form };
+
+    ghost invariant = { λ a. IsForm a.form };
 }
 
 impl ElementStore {
@@ -47,8 +58,7 @@ impl ElementStore {
     {
         ElementStore {
             alloc,
-            keys: KeyStore::new(alloc),
-            key: Vec::new(alloc),
+            form: Form::Closed(Block::new(alloc)),
         }
     }
 
@@ -81,6 +91,20 @@ impl ElementStore {
         }
     }
 
+    /// Takes the memory in which elements are added. If out of memory it changes nothing.
+    fn open(&mut self) -> Result<(), AllocError>
+        requires { total (λ _. 1) self.old < 2 ^ 64 }
+        ensures { self.new ≡ self.old }
+    {
+        let Form::Closed(block) = &mut self.form else {
+            return Ok(());
+        };
+        let mut filling = Box::new(self.alloc, Filling::new(self.alloc))?;
+        filling.begin(mem::replace(block, Block::new(self.alloc)));
+        self.form = Form::Open(filling);
+        Ok(())
+    }
+
     /// Adds an element that the profile may keep in another form, this many times. If out of memory it adds nothing.
     fn add_geometry(
         &mut self,
@@ -96,10 +120,11 @@ impl ElementStore {
         ensures sound { OnOk result (IsSound element.now) }
         ensures err { OnErr result (self.new ≡ self.old) }
     {
-        element.fits();
-        put_kept(self.alloc, profile, element, &mut self.key)?;
-        self.keys.add(&self.key, times)?;
-        Ok(())
+        self.open()?;
+        match &mut self.form {
+            Form::Open(filling) => filling.add_geometry(profile, element, times),
+            Form::Closed(_) => Err(AllocError),
+        }
     }
 
     /// Adds a placement with these fields, which every profile keeps unchanged, this many times. If out of memory it adds
@@ -120,11 +145,11 @@ impl ElementStore {
         ensures sound { OnOk result (IsSound (Placement cell.now x y turns flip)) }
         ensures err { OnErr result (self.new ≡ self.old) }
     {
-        let _name = cell.as_bytes();
-        self.key.clear();
-        put_placement_key(cell, x, y, turns, flip, &mut self.key)?;
-        self.keys.add(&self.key, times)?;
-        Ok(())
+        self.open()?;
+        match &mut self.form {
+            Form::Open(filling) => filling.add_placement(cell, x, y, turns, flip, times),
+            Form::Closed(_) => Err(AllocError),
+        }
     }
 
     /// Adds a text with these fields, which every profile keeps unchanged, this many times. If out of memory it adds nothing.
@@ -144,19 +169,24 @@ impl ElementStore {
         ensures sound { OnOk result (IsSound (Text string.now textlayer texttype x y)) }
         ensures err { OnErr result (self.new ≡ self.old) }
     {
-        let _string = string.as_bytes();
-        self.key.clear();
-        put_text_key(string, textlayer, texttype, x, y, &mut self.key)?;
-        self.keys.add(&self.key, times)?;
-        Ok(())
+        self.open()?;
+        match &mut self.form {
+            Form::Open(filling) => filling.add_text(string, textlayer, texttype, x, y, times),
+            Form::Closed(_) => Err(AllocError),
+        }
     }
 
     /// Gives back memory that is idle as long as no element is added.
     pub fn rest(&mut self)
         ensures { self.new ≡ self.old }
     {
-        self.key = Vec::new(self.alloc);
-        self.keys.rest();
+        let few = match &mut self.form {
+            Form::Open(filling) => filling.rest(),
+            Form::Closed(_) => None,
+        };
+        if let Some(block) = few {
+            self.form = Form::Closed(block);
+        }
     }
 
     /// The run of the keys, or out of memory.
@@ -164,27 +194,10 @@ impl ElementStore {
         ensures same { IfOk result (λ run. run ≡ self) }
         ensures run { IfOk result (λ run. IsRun (slice_cmp nat_cmp) run) }
     {
-        match self.keys.close() {
-            Ok(run) => Ok(run),
-            Err(_) => Err(AllocError),
+        let ElementStore { form, .. } = self;
+        match form {
+            Form::Closed(block) => Ok(Run::of_block(block)),
+            Form::Open(filling) => Box::into_inner(filling).close(),
         }
     }
-}
-
-/// Puts the key of an element in its kept form in place of what was there.
-fn put_kept(
-    alloc: Global,
-    profile: Profile,
-    element: &Element,
-    key: &mut Vec<u8>,
-) -> Result<(), AllocError>
-    requires { IsSound element.now }
-    ensures { OnOk result (key.new.items ≡ key_of (normal profile element.now)) }
-{
-    key.clear();
-    match element.kept_form(alloc, profile)? {
-        Some(kept) => put_key(&kept, key)?,
-        None => put_key(element, key)?,
-    }
-    Ok(())
 }

@@ -21,13 +21,17 @@
 //!   thing by a number, the sums over what is held and over what was drawn are equal. So the order of drawing, of keys or of
 //!   runs doesn't matter, and a draw is one equation of sums (proofs/DrawLemmas.antt). The profile by which elements are kept
 //!   is a type (src/profiles.rt), since a store is begun with its CELL alone.
-//! - src/elements.rt puts a key into the store's own buffer, so that an element needs no memory of its own. Placements and
+//! - src/elements.rt holds the keys of a cell in one of two forms (specs/Forms.antt). While elements are added they are in a
+//!   store of keys (src/filling.rt). Once a cell ends and has few, they are put in order, into one block of bytes, and all else
+//!   of the store is freed (`rest`): so a layout may have very many small cells. An element that is added later opens the store
+//!   again, of that block. A large cell keeps its store, and is put in order when it becomes a run.
+//! - src/filling.rt puts a key into the store's own buffer, so that an element needs no memory of its own. Placements and
 //!   texts are the same in every profile, so theirs are put from their fields alone (`add_placement`, `add_text`), whether
-//!   they came with a name or waited for it. src/waiting.rt: what is drawn by numbers, as it was drawn. What is drawn once
-//!   and fits into 16 bytes (src/short.rt) is in chunks in the order in which it came (src/chunks.rt), and each is freed once
-//!   it is placed; all else is counted in a map. Once a cell ends, its keys and what waits give back the memory that they
-//!   don't fill, in place (`rest`). proofs/WaitLemmas.antt says that the sums are those with one more (`WaitsMore`,
-//!   specs/Compact.antt).
+//!   they came with a name or waited for it.
+//! - src/waiting.rt: what is drawn by numbers, as it was drawn; no memory where nothing is. What is drawn once and fits into 16
+//!   bytes (src/short.rt) is in chunks in the order in which it came (src/chunks.rt), and each is freed once it is placed; all
+//!   else is counted in a map. Once a cell ends, what waits gives back the memory that it doesn't fill, in place (`rest`).
+//!   proofs/WaitLemmas.antt says that the sums are those with one more (`WaitsMore`, specs/Compact.antt).
 //! - src/weighing.rt weighs what waits by the names of its numbers; proofs/WeighLemmas.antt says that a cell so weighs what was
 //!   drawn in it (`cell_known`), and uses oas_reader's lemmas about weights capped to 64 bits.
 //! - src/placing.rt places what waits among the elements, with no element and no copy of a name in between: the key is put
@@ -38,6 +42,7 @@
 mod cells;
 mod chunks;
 mod elements;
+mod filling;
 mod placing;
 mod profiles;
 mod short;

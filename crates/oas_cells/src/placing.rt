@@ -14,7 +14,7 @@ ghost use Rattle.oas_cells.specs.Placing.{with_placed, placed, IsSoundBy, AreSou
 use crate::chunks::Chunk;
 use crate::elements::ElementStore;
 use crate::short::Short;
-use crate::waiting::Waiting;
+use crate::waiting::{Queue, Waiting};
 use oas_elements::Profile;
 use oas_num::{Label, Name, Why};
 use oas_reader::{Drawn, NameTable};
@@ -172,6 +172,31 @@ fn place_counted(
     Ok(())
 }
 
+/// Places what waits in chunks and in a map, where its numbers have names.
+fn place_queue(
+    profile: Profile,
+    kept: &mut ElementStore,
+    queue: Queue,
+    names: &NameTable<Name>,
+    strings: &NameTable<Label>,
+) -> Result<(), Why>
+    requires waits { AllByRecursion Waits queue }
+    requires room { total (λ _. 1) kept.old + total (λ _. 1) queue < 2 ^ 64 }
+    requires keys { AreKeys profile kept.old }
+    ensures placed { OnOk result (kept.new ≡ placed profile names.now.named strings.now.named queue kept.old) }
+    ensures keys { OnOk result (AreKeys profile kept.new) }
+    ensures sound { OnOk result (AreSoundBy names.now.named strings.now.named queue) }
+    ensures err { IfErr result (λ why. why ≡ Memory) }
+{
+    let Queue { chunks, others } = queue;
+    let Ok(row) = chunks.into_row() else {
+        return Err(Why::Memory);
+    };
+    place_chunks(profile, kept, row, names, strings)?;
+    place_counted(profile, kept, others, names, strings)?;
+    Ok(())
+}
+
 /// Places all that waits, where its numbers have names.
 pub(crate) fn place_all(
     profile: Profile,
@@ -188,11 +213,8 @@ pub(crate) fn place_all(
     ensures sound { OnOk result (AreSoundBy names.now.named strings.now.named waiting) }
     ensures err { IfErr result (λ why. why ≡ Memory) }
 {
-    let Waiting { chunks, others } = waiting;
-    let Ok(row) = chunks.into_row() else {
-        return Err(Why::Memory);
-    };
-    place_chunks(profile, kept, row, names, strings)?;
-    place_counted(profile, kept, others, names, strings)?;
-    Ok(())
+    match waiting.queue {
+        Some(queue) => place_queue(profile, kept, Box::into_inner(queue), names, strings),
+        None => Ok(()),
+    }
 }

@@ -1,13 +1,13 @@
 -- The parts of a store, and the list that contracts see.
-use Rattle.std.proofs.Common.{◌≡◌, ℕ, ◌<◌, List, [], ◌∷◌, ◌++◌, cond, length, refl, sym, ap, arith, subst}
+use Rattle.std.proofs.Common.{◌≡◌, ℕ, ◌<◌, ◌^◌, List, [], ◌∷◌, ◌++◌, cond, length, refl, sym, ap, arith, subst}
 use Rattle.std.specs.Cmp.{IsTotalOrder}
 use Rattle.std.specs.Ordering.{is_eq}
 use Rattle.std.specs.declared.cmp.Ordering.{Ordering}
 use Rattle.std.proofs.lemmas.Map.Lookups.{CmpEqualImpliesEq}
 use Rattle.oas_elements.specs.Bag.{put_more}
 use Rattle.oas_runs.specs.Runs.{total, Positive, IsRun, SameTotals}
-use Rattle.oas_run_store.specs.Tally.{tally}
-use Rattle.oas_run_store.specs.Laws.TallyLaws.{same_tally, run_is_tally}
+use Rattle.oas_run_store.specs.Tally.{tally, count_at}
+use Rattle.oas_run_store.specs.Laws.TallyLaws.{same_tally, run_is_tally, count_at-is}
 use Rattle.oas_runs.specs.Blocks.{joined}
 use Rattle.oas_run_store.specs.Parts.{contents, AreParts, AreRuns, CountsFit}
 use Rattle.oas_run_store.proofs.PartLemmas.{total_contents, total_runs, IsRun-empty}
@@ -56,8 +56,27 @@ module _ {K : Type 0} where
   no_run olds es h e g = omega (arith, none_held g olds h, ap (total g) e)
 
   -- so it is what the store was seen as
-  pub run_is_view : {R : K → K → Ordering} → IsTotalOrder R → CmpEqualImpliesEq R → (es r l r' l' : List (K × ℕ)) (rs rs' rs'' : List (List (K × ℕ))) → IsRun R es
-      → AreParts R r l rs → r' ≡ [] → l' ≡ [] → SameTotals (contents r' l' rs') (contents r l rs) → SameTotals (joined rs'') (joined rs')
-      → SameTotals es (joined rs'') → es ≡ tally R (contents r l rs)
-  run_is_view {R} o exact es r l r' l' rs rs' rs'' run p a b h i j =
-      run_is_tally o exact es (contents r l rs) run (positive_contents R r l rs p) (λ g. omega (arith, j g, i g, h g, total_contents g r' l' rs', ap (total g) a, ap (total g) b))
+  pub run_is_view : {R : K → K → Ordering} → IsTotalOrder R → CmpEqualImpliesEq R → (es r l r' l' : List (K × ℕ)) (rs rs' : List (List (K × ℕ))) → IsRun R es
+      → AreParts R r l rs → r' ≡ [] → l' ≡ [] → SameTotals (contents r' l' rs') (contents r l rs)
+      → SameTotals es (joined rs') → es ≡ tally R (contents r l rs)
+  run_is_view {R} o exact es r l r' l' rs rs' run p a b h i =
+      run_is_tally o exact es (contents r l rs) run (positive_contents R r l rs p) (λ g. omega (arith, i g, h g, total_contents g r' l' rs', ap (total g) a, ap (total g) b))
+
+  -- ---- a run among what waits, and nothing else
+
+  alone : (g : K → ℕ) (r es : List (K × ℕ)) (rs : List (List (K × ℕ))) → r ≡ [] → rs ≡ [] → total g (contents r es rs) ≡ total g es
+  alone g r es rs a b = omega (arith, total_contents g r es rs, ap (total g) a, ap (λ (xs : List (List (K × ℕ))). total g (joined xs)) b)
+
+  pub block_parts : {R : K → K → Ordering} → IsTotalOrder R → (r es : List (K × ℕ)) (rs : List (List (K × ℕ))) → r ≡ [] → rs ≡ [] → IsRun R es
+      → ((k : K) → count_at R es k < 2 ^ 64) → AreParts R r es rs
+  block_parts {R} o r es rs a b run h = record {
+    ascends = IsRun-empty R r a;
+    waits = run.positive;
+    runs = subst (λ (xs : List (List (K × ℕ))). AreRuns R xs) (sym b) tt;
+    fits = λ k. omega (arith, alone (λ x. cond (is_eq (R k x)) 1 0) r es rs a b, count_at-is o k es run.ascending, h k);
+  }
+
+  pub block_is_view : {R : K → K → Ordering} → IsTotalOrder R → CmpEqualImpliesEq R → (r es : List (K × ℕ)) (rs : List (List (K × ℕ))) → r ≡ [] → rs ≡ []
+      → IsRun R es → AreParts R r es rs → tally R (contents r es rs) ≡ es
+  block_is_view {R} o exact r es rs a b run p =
+      sym (run_is_tally o exact es (contents r es rs) run (positive_contents R r es rs p) (λ g. sym (alone g r es rs a b)))

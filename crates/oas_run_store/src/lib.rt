@@ -5,7 +5,8 @@
 //! - A [`KeyStore`] takes keys in any order; contracts see it as the ascending list of keys with their counts. If out of
 //!   memory, [`KeyStore::add`] changes nothing. [`KeyStore::close`] returns a run (`Run` of oas_runs) of just that list,
 //!   which ascends strictly, or, if out of memory, the store unchanged. [`KeyStore::rest`] gives back idle memory, and
-//!   doesn't change the list.
+//!   doesn't change the list. [`KeyStore::take_few`] takes the list out as one block, where its keys are few, and
+//!   [`KeyStore::of_block`] is the store of such a block.
 //! - The tally of any list of keys and counts (`tally`, specs/Tally.antt) is determined by its sums alone: a run with these
 //!   sums is that tally (`run_is_tally`, specs/Laws/TallyLaws.antt).
 //!

@@ -1,6 +1,6 @@
 //! The rising run and the loose keys become runs.
 
-ghost use Rattle.std.specs.Prelude.{◌≡◌, [], ◌∷◌, ◌++◌, IfOk, OnOk};
+ghost use Rattle.std.specs.Prelude.{◌≡◌, ◌≤◌, [], ◌∷◌, ◌++◌, IfOk, OnOk, IsTrue, vec_len};
 ghost use Rattle.std.specs.Cmp.Lexicographic.{slice_cmp};
 ghost use Rattle.std.specs.Ordering.{nat_cmp};
 ghost use Rattle.oas_runs.specs.Runs.{IsRun, SameTotals};
@@ -8,7 +8,7 @@ ghost use Rattle.oas_run_store.specs.Loose.{entries_of};
 ghost use Rattle.oas_runs.specs.Blocks.{joined};
 ghost use Rattle.oas_run_store.specs.Parts.{contents, AreRuns, AreParts, CountsFit};
 
-use crate::joining::{add_run, join_close};
+use crate::joining::{add_run, join_all, join_close};
 use crate::last::LastKey;
 use crate::loose::{Loose, in_order};
 use crate::rising::Rising;
@@ -147,4 +147,24 @@ pub(crate) fn settle(
 {
     settle_long(alloc, rising, loose, runs)?;
     settle_both(alloc, rising, loose, runs)
+}
+
+/// Makes one run of all, or none where there are no keys, and returns whether it did. If out of memory, all is still held.
+pub(crate) fn settle_all(
+    alloc: Global,
+    rising: &mut Rising<Vec<u8>>,
+    loose: &mut Block,
+    runs: &mut Vec<Run>,
+) -> bool
+    requires { AreParts (slice_cmp nat_cmp) rising.old loose.old runs.old.items }
+    ensures parts { AreParts (slice_cmp nat_cmp) rising.new loose.new runs.new.items }
+    ensures same { SameTotals (contents rising.new loose.new runs.new.items) (contents rising.old loose.old runs.old.items) }
+    ensures rising { IsTrue result → rising.new ≡ [] }
+    ensures loose { IsTrue result → loose.new ≡ [] }
+    ensures one { IsTrue result → vec_len runs.new ≤ 1 }
+{
+    if settle(alloc, rising, loose, runs).is_err() {
+        return false;
+    }
+    join_all(alloc, runs)
 }

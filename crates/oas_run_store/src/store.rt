@@ -1,6 +1,6 @@
 //! Keys with counts, in any order.
 
-ghost use Rattle.std.specs.Prelude.{◌≡◌, ◌+◌, ◌<◌, ◌^◌, [], OnOk, OnErr, IfOk, IfErr};
+ghost use Rattle.std.specs.Prelude.{◌≡◌, ◌+◌, ◌<◌, ◌^◌, List, ℕ, [], OnOk, OnErr, IfOk, IfErr, IfSome, IfNone};
 ghost use Rattle.std.specs.Cmp.Lexicographic.{slice_cmp};
 ghost use Rattle.std.specs.Ordering.{nat_cmp};
 ghost use Rattle.oas_elements.specs.Bag.{put_more};
@@ -8,12 +8,14 @@ ghost use Rattle.oas_runs.specs.Runs.{IsRun};
 ghost use Rattle.oas_run_store.specs.Tally.{count_at};
 
 use crate::adding::add_key;
-use crate::joining::join_all;
 use crate::rising::Rising;
-use crate::settling::settle;
+use crate::settling::settle_all;
 use oas_runs::{Block, Growing, Run};
 use std::alloc::{AllocError, Global};
 use std::marker::Model;
+
+/// So many bytes of keys are few: what a store takes beside them is a large part of its memory.
+const FEW: usize = 4096;
 
 /// Keys with their counts; contracts see the list of both, with the keys ascending.
 #[derive(Drop)]
@@ -52,6 +54,20 @@ impl KeyStore {
         }
     }
 
+    /// The keys of a block, each with its count, without allocation.
+    pub fn of_block(alloc: Global, block: Block) -> KeyStore
+        requires run { IsRun (slice_cmp nat_cmp) block }
+        requires fits { (k : List ℕ) → count_at (slice_cmp nat_cmp) block k < 2 ^ 64 }
+        ensures { result ≡ block }
+    {
+        KeyStore {
+            alloc,
+            rising: Rising::new(alloc),
+            loose: block,
+            runs: Vec::new(alloc),
+        }
+    }
+
     /// Adds a key this many times; if out of memory, nothing.
     pub fn add(&mut self, key: &[u8], times: u64) -> Result<(), AllocError>
         requires some { 0 < times }
@@ -78,22 +94,54 @@ impl KeyStore {
         self.loose.fit(0);
     }
 
+    /// Whether the keys are few.
+    fn has_few(&self) -> bool {
+        let size = self.rising.size().saturating_add(self.loose.size());
+        self.runs.is_empty() && size <= FEW
+    }
+
+    /// Takes the keys out, ascending in one block and each with its count, where they are few. Else, or if out of memory, it
+    /// takes none.
+    pub fn take_few(&mut self) -> Option<Block>
+        ensures some { IfSome result (λ block. block ≡ self.old) }
+        ensures run { IfSome result (λ block. IsRun (slice_cmp nat_cmp) block) }
+        ensures none { IfNone result (self.new ≡ self.old) }
+    {
+        if !self.has_few() {
+            return None;
+        }
+        if !settle_all(
+            self.alloc,
+            &mut self.rising,
+            &mut self.loose,
+            &mut self.runs,
+        ) {
+            return None;
+        }
+        let Some(run) = self.runs.pop() else {
+            return Some(Block::new(self.alloc));
+        };
+        match run.into_block() {
+            Ok(block) => Some(block.fitted(self.alloc)),
+            Err(run) => {
+                self.runs.push_reserved(run);
+                None
+            }
+        }
+    }
+
     /// The keys ascending, each with its count; or, if out of memory, the store unchanged.
     pub fn close(mut self) -> Result<Run, KeyStore>
         ensures ok { IfOk result (λ run. run ≡ self) }
         ensures run { IfOk result (λ run. IsRun (slice_cmp nat_cmp) run) }
         ensures err { IfErr result (λ store. store ≡ self) }
     {
-        match settle(
+        if !settle_all(
             self.alloc,
             &mut self.rising,
             &mut self.loose,
             &mut self.runs,
         ) {
-            Ok(()) => {}
-            Err(AllocError) => return Err(self),
-        }
-        if !join_all(self.alloc, &mut self.runs) {
             return Err(self);
         }
         match self.runs.pop() {

@@ -20,10 +20,8 @@ module _ {X : Type 0} where
   in_next full fulls last news whole x f e v = (λ i. joined (f i) ++ e i) ∙ ap (λ (xs : List X). xs ++ x ∷ []) (joined-more full last ∙ v)
 
   -- the first block apart in place of the last
-  pub turned : (full rest news : List (List X)) (first last whole : List X) → full ≡ first ∷ rest → news ≡ rest ++ last ∷ [] → joined full ++ last ≡ whole → first ++ joined news ≡ whole
-  turned full rest news first last whole f n v =
-      ap (λ (xss : List (List X)). first ++ joined xss) n ∙ ap (λ (xs : List X). first ++ xs) (joined-more rest last)
-      ∙ sym (append_assoc first (joined rest) last) ∙ ap (λ (xss : List (List X)). joined xss ++ last) (sym f) ∙ v
+  pub turned : (full news : List (List X)) (first last whole : List X) → first ∷ news ≡ full ++ last ∷ [] → joined full ++ last ≡ whole → first ++ joined news ≡ whole
+  turned full news first last whole e v = ap joined e ∙ joined-more full last ∙ v
 
   pub front-nil : (xs ys : List X) → xs ++ ys ≡ [] → xs ≡ []
   front-nil [] ys e = refl

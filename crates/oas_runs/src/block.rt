@@ -106,6 +106,16 @@ impl Block {
         self.bytes.shrink_to(wanted);
     }
 
+    /// The same entries, in memory of just their size. If out of memory it is the block itself.
+    pub fn fitted(self, alloc: Global) -> Block
+        ensures { result ≡ self }
+    {
+        match Vec::from_slice(alloc, self.left()) {
+            Ok(bytes) => Block { bytes, start: 0 },
+            Err(_) => self,
+        }
+    }
+
     /// The bytes of the entries that are left.
     pub fn left(&self) -> &[u8]
         ensures is { entries result.now ≡ self.now }

@@ -6,16 +6,15 @@ ghost use Rattle.std.specs.Map.Iter.{TakesFirst};
 ghost use Rattle.oas_runs.specs.Entries.{key_and_count, entries, IsBlock};
 ghost use Rattle.oas_runs.specs.Blocks.{joined, NoneEmpty};
 
-use crate::block::Block;
+use crate::blocks::Blocks;
 use crate::entry::{after, read_entry};
-use std::collections::VecDeque;
 use std::marker::Model;
 
 /// Keys ascending, each with its count; contracts see the list of those to come.
 #[derive(Drop)]
 pub struct Entries<'a> {
     left: &'a [u8],
-    blocks: &'a VecDeque<Block>,
+    blocks: &'a Blocks,
     next: usize,
 }
 
@@ -26,18 +25,18 @@ impl<'a> Model for Entries<'a> {
 
     ghost Value = { List Entry };
 
-    ghost view = { λ a. entries a.left.now ++ joined (drop a.next a.blocks.now.items) };
+    ghost view = { λ a. entries a.left.now ++ joined (drop a.next a.blocks.now) };
 
-    ghost invariant = { λ a. IsBlock a.left.now × NoneEmpty a.blocks.now.items × (entries a.left.now ≡ [] → drop a.next a.blocks.now.items ≡ []) };
+    ghost invariant = { λ a. IsBlock a.left.now × NoneEmpty a.blocks.now × (entries a.left.now ≡ [] → drop a.next a.blocks.now ≡ []) };
 }
 
 impl<'a> Entries<'a> {
     /// The entries of these bytes, and then those of these blocks.
-    pub(crate) fn of(left: &'a [u8], blocks: &'a VecDeque<Block>) -> Entries<'a>
+    pub(crate) fn of(left: &'a [u8], blocks: &'a Blocks) -> Entries<'a>
         requires left { IsBlock left.now }
-        requires blocks { NoneEmpty blocks.now.items }
-        requires first { entries left.now ≡ [] → blocks.now.items ≡ [] }
-        ensures { result ≡ entries left.now ++ joined blocks.now.items }
+        requires blocks { NoneEmpty blocks.now }
+        requires first { entries left.now ≡ [] → blocks.now ≡ [] }
+        ensures { result ≡ entries left.now ++ joined blocks.now }
     {
         Entries {
             left,

@@ -5,18 +5,18 @@ ghost use Rattle.oas_runs.specs.Blocks.{joined};
 ghost use Rattle.oas_runs.specs.Runs.{SameTotals};
 
 use crate::block::Block;
+use crate::blocks::Blocks;
 use crate::entries::Entries;
 use crate::entry::SHORT_HEAD;
 use crate::run::Run;
 use std::alloc::{AllocError, Global};
-use std::collections::VecDeque;
 use std::marker::Model;
 use std::mem;
 
 /// Entries in blocks, the last of which grows.
 #[derive(Drop)]
 pub struct Growing {
-    full: VecDeque<Block>,
+    full: Blocks,
     last: Block,
     size: usize,
 }
@@ -28,9 +28,9 @@ impl Model for Growing {
 
     ghost Value = { List Entry };
 
-    ghost view = { λ a. joined a.full.items ++ a.last };
+    ghost view = { λ a. joined a.full ++ a.last };
 
-    ghost invariant = { λ a. NoneEmpty a.full.items × (a.last ≡ [] → a.full.items ≡ []) };
+    ghost invariant = { λ a. NoneEmpty a.full × (a.last ≡ [] → a.full ≡ []) };
 }
 
 impl Growing {
@@ -39,7 +39,7 @@ impl Growing {
         ensures { result ≡ [] }
     {
         Growing {
-            full: VecDeque::new(alloc),
+            full: Blocks::new(),
             last: Block::new(alloc),
             size: 0,
         }
@@ -51,7 +51,7 @@ impl Growing {
     {
         let last = Block::with_bytes(alloc, bytes)?;
         Ok(Growing {
-            full: VecDeque::new(alloc),
+            full: Blocks::new(),
             last,
             size: 0,
         })
@@ -65,10 +65,7 @@ impl Growing {
         if self.last.has_room(key.len()) {
             self.last.append(key, times)?;
         } else {
-            let block = block_of(alloc, key, times)?;
-            self.full.reserve(1)?;
-            let full = mem::replace(&mut self.last, block);
-            self.full.push_back_reserved(full);
+            begin_block(alloc, &mut self.full, &mut self.last, key, times)?;
         }
         self.size = size_with(self.size, key);
         Ok(())
@@ -97,18 +94,9 @@ impl Growing {
     pub fn into_run(self) -> Run
         ensures { result ≡ self }
     {
-        let Growing {
-            mut full,
-            last,
-            size,
-        } = self;
-        match full.pop_front() {
-            Some(first) => {
-                full.push_back_reserved(last);
-                Run::of(first, full, size)
-            }
-            None => Run::of(last, full, size),
-        }
+        let Growing { mut full, last, .. } = self;
+        let first = full.turn(last);
+        Run::of(first, full)
     }
 }
 
@@ -116,6 +104,27 @@ impl Growing {
 #[inline(always)]
 pub fn size_with(size: usize, key: &[u8]) -> usize {
     size.saturating_add(key.len()).saturating_add(SHORT_HEAD)
+}
+
+/// Puts the last block among the full ones, and begins another with an entry; or changes nothing.
+fn begin_block(
+    alloc: Global,
+    full: &mut Blocks,
+    last: &mut Block,
+    key: &[u8],
+    times: u64,
+) -> Result<(), AllocError>
+    ensures full { OnOk result (full.new ≡ full.old ++ last.old ∷ []) }
+    ensures last { OnOk result (last.new ≡ (key.now, times) ∷ []) }
+    ensures err { OnErr result ((full.new ≡ full.old) × (last.new ≡ last.old)) }
+{
+    let block = block_of(alloc, key, times)?;
+    let before = mem::replace(last, block);
+    if let Err(before) = full.push_back(alloc, before) {
+        *last = before;
+        return Err(AllocError);
+    }
+    Ok(())
 }
 
 /// A block with one entry.

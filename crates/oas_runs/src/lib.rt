@@ -7,7 +7,8 @@
 //! - Contracts see a [`Block`] as the list of its entries that are left. One more can be put at its end; if out of memory
 //!   none is. A block can be cleared, and gives back idle memory. Its first entry and the bytes that are left can be read.
 //! - Contracts see a [`Run`] as the list of its entries that are left. Its first entry can be read and taken; a block that is
-//!   used up is freed. [`Run::entries`] iterates over all that are left, and `==` compares them (specs/Comparing.antt: it
+//!   used up is freed. A run of one block is made of the block (`Run::of_block`), and gives it back (`Run::into_block`).
+//!   [`Run::entries`] iterates over all that are left, and `==` compares them (specs/Comparing.antt: it
 //!   holds exactly for equal lists).
 //! - A [`Growing`] run is written entry by entry into blocks of bytes. If out of memory it is unchanged. It becomes a [`Run`]
 //!   of the same entries without allocation. Before that, [`Growing::entries`] iterates over what was written, in no order:
@@ -27,6 +28,7 @@
 #![tactic(auto)]
 
 mod block;
+mod blocks;
 mod comparing;
 mod entries;
 mod entry;

@@ -1,20 +1,19 @@
 //! A run of entries in blocks, from which the first can be taken.
 
-ghost use Rattle.std.specs.Prelude.{◌≡◌, ◌+◌, ◌<◌, [], ◌∷◌, ◌++◌, List, ℕ, IfSome, IfNone, IsTrue, IsFalse};
+ghost use Rattle.std.specs.Prelude.{◌≡◌, ◌+◌, ◌<◌, [], ◌∷◌, ◌++◌, List, ℕ, IfSome, IfNone, IfOk, IfErr, IsTrue, IsFalse};
 ghost use Rattle.oas_runs.specs.Blocks.{joined, NoneEmpty};
 
 use crate::block::Block;
+use crate::blocks::Blocks;
 use crate::entries::Entries;
 use crate::entry::Entry;
-use std::collections::VecDeque;
 use std::marker::Model;
 
 /// Entries in blocks; contracts see the list of those that are left. A block that is used up is freed.
 #[derive(Drop)]
 pub struct Run {
     first: Block,
-    rest: VecDeque<Block>,
-    size: usize,
+    rest: Blocks,
 }
 
 impl Model for Run {
@@ -24,24 +23,46 @@ impl Model for Run {
 
     ghost Value = { List Entry };
 
-    ghost view = { λ a. a.first ++ joined a.rest.items };
+    ghost view = { λ a. a.first ++ joined a.rest };
 
-    ghost invariant = { λ a. NoneEmpty a.rest.items × (a.first ≡ [] → a.rest.items ≡ []) };
+    ghost invariant = { λ a. NoneEmpty a.rest × (a.first ≡ [] → a.rest ≡ []) };
 }
 
 impl Run {
     /// The entries of these blocks. None except the first may be empty.
-    pub(crate) fn of(first: Block, rest: VecDeque<Block>, size: usize) -> Run
-        requires rest { NoneEmpty rest.items }
-        requires first { first ≡ [] → rest.items ≡ [] }
-        ensures { result ≡ first ++ joined rest.items }
+    pub(crate) fn of(first: Block, rest: Blocks) -> Run
+        requires rest { NoneEmpty rest }
+        requires first { first ≡ [] → rest ≡ [] }
+        ensures { result ≡ first ++ joined rest }
     {
-        Run { first, rest, size }
+        Run { first, rest }
     }
 
-    /// About how many bytes it was made of.
+    /// The entries of one block.
+    pub fn of_block(block: Block) -> Run
+        ensures { result ≡ block }
+    {
+        Run {
+            first: block,
+            rest: Blocks::new(),
+        }
+    }
+
+    /// Its block, where it has only one; else the run.
+    pub fn into_block(self) -> Result<Block, Run>
+        ensures ok { IfOk result (λ block. block ≡ self) }
+        ensures err { IfErr result (λ run. run ≡ self) }
+    {
+        if !self.rest.is_empty() {
+            return Err(self);
+        }
+        let Run { first, .. } = self;
+        Ok(first)
+    }
+
+    /// About how many bytes its blocks have.
     pub fn size(&self) -> usize {
-        self.size
+        self.first.size().saturating_add(self.rest.size())
     }
 
     /// Whether no entry is left.

@@ -5,4 +5,4 @@ use Rattle.oas_runs.proofs.BlockLemmas.{last_first}
 use Rattle.oas_runs.proofs.growing.Growing.entries.Goals as goal
 
 pub returns : goal.returns
-returns c = last_first c.self.inside.full.items c.self.inside.last c.of.result c.args.self.now (c.of.ensures ∙ ap (λ (es : List Entry). es ++ joined c.self.inside.full.items) c.left.ensures.is) c.self.view_is
+returns c = last_first c.self.inside.full c.self.inside.last c.of.result c.args.self.now (c.of.ensures ∙ ap (λ (es : List Entry). es ++ joined c.self.inside.full) c.left.ensures.is) c.self.view_is

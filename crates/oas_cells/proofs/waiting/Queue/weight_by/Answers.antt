@@ -1,7 +1,7 @@
 use Rattle.std.proofs.Common.{◌∙◌, ap}
 use Rattle.oas_cells.specs.Weighing.{waiting_weight}
 use Rattle.oas_cells.proofs.WeighLemmas.{two_weights}
-use Rattle.oas_cells.proofs.waiting.Waiting.weight_by.Goals as goal
+use Rattle.oas_cells.proofs.waiting.Queue.weight_by.Goals as goal
 
 pub returns : goal.returns
 returns c =

@@ -2,7 +2,7 @@ use Rattle.std.proofs.Common.{◌≡◌, sym, ap, ◌∙◌, subst, unwrap_or}
 use Rattle.oas_elements.specs.Same.{normal}
 use Rattle.oas_elements.specs.Sound.{IsSound}
 use Rattle.oas_cells.proofs.KeptLemmas.{normal_sound}
-use Rattle.oas_cells.proofs.elements.put_kept.Goals as goal
+use Rattle.oas_cells.proofs.filling.put_kept.Goals as goal
 
 pub put_key-requires : goal.put_key-requires
 put_key-requires c =

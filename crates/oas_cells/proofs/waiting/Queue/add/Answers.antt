@@ -7,7 +7,7 @@ use Rattle.oas_cells.specs.Short.{drawn_of}
 use Rattle.oas_reader.proofs.HeldLemmas.{times_drawn-derived, with_drawn-inserted, IsHeld-insert_entry}
 use Rattle.oas_cells.proofs.DrawLemmas.{one_few}
 use Rattle.oas_cells.proofs.WaitLemmas.{total-append, chunks_more, others_more}
-use Rattle.oas_cells.proofs.waiting.Waiting.add.Goals as goal
+use Rattle.oas_cells.proofs.waiting.Queue.add.Goals as goal
 
 pub count_up-requires : goal.count_up-requires
 count_up-requires c =

@@ -4,7 +4,7 @@ use Rattle.std.specs.Ordering.{nat_cmp}
 use Rattle.std.specs.Cmp.Lexicographic.{slice_cmp}
 use Rattle.oas_elements.specs.Laws.BagLaws.{total}
 use Rattle.oas_cells.proofs.DrawLemmas.{one_few}
-use Rattle.oas_cells.proofs.elements.ElementStore.add_geometry.Goals as goal
+use Rattle.oas_cells.proofs.filling.Filling.add_placement.Goals as goal
 
 pub add-requires-clause-room : goal.add-requires-clause-room
 add-requires-clause-room c =
