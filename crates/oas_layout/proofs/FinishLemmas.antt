@@ -83,6 +83,11 @@ none_holds false true c h = cc
 none_holds false false true h = cc
 none_holds false false false h = (refl, refl)
 
+-- no two cells have one name
+pub once : (names strings : List (ℕ × List ℕ)) (limits : Limits) (ds : List DrawnCell) → end_reason names strings limits ds ≡ None → has_twice (keys_of (cells_by_name names strings ds)) ≡ false
+once names strings limits ds ends =
+    (none_holds (lacks_name names strings ds) (has_twice (keys_of (cells_by_name names strings ds))) (nat_lt limits.weight (cells_weight (cells_by_name names strings ds))) ends).0
+
 no_more : (most n : ℕ) → nat_lt most n ≡ false → n ≤ most
 no_more most n h = grind (arith, nat_tests)
 

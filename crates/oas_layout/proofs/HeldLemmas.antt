@@ -1,9 +1,9 @@
 -- What is taken of keys is taken of what they hold.
 use Rattle.std.proofs.Common.{◌≡◌, ℕ, suc, ◌+◌, ◌≤◌, ◌^◌, List, [], ◌∷◌, length, Option, None, Some, refl, sym, ap, subst, ◌∙◌, arith}
-use Rattle.std.specs.Prelude.{sum_by}
+use Rattle.std.specs.Prelude.{sum_by, MatchOption}
 use Rattle.std.specs.Borrow.{Bor}
 use Rattle.std.specs.List.{AllByRecursion}
-use Rattle.std.specs.Map.Iter.{TakesFirst, deref_pair}
+use Rattle.std.specs.Map.Iter.{TakesFirst, deref}
 use Rattle.oas_elements.specs.declared.element.Element.{Element}
 use Rattle.oas_elements.specs.declared.profile.Profile.{Profile}
 use Rattle.oas_elements.specs.Bag.{items}
@@ -115,19 +115,32 @@ pub no_cell_taken : {A : Type 0} (shows : A → Cell) (r : Option A) (now : List
     → (g : HeldCells ts) → TakesFirst shows now r (cells_held g)
 no_cell_taken shows r now h e f k l g = subst (λ (o : Option _). TakesFirst shows now o (cells_held g)) (sym e) (sym f ∙ no_cells h k, no_cells g l)
 
+-- what an iterator takes is the first
+no_length : {A : Type 0} (xs : List A) → length xs ≡ 0 → xs ≡ []
+no_length [] e = refl
+no_length (x ∷ xs) e = absurd (omega (arith, e))
+
+module _ {S A : Type 0} (rest : S → List A) (s t : S) where
+  pub none_left : (length (rest s) ≡ 0) × (t ≡ s) → (rest s ≡ []) × (rest t ≡ [])
+  none_left h = let none = no_length (rest s) h.0 in (none, ap rest h.1 ∙ none)
+
+  pub first_left : (r : Option (Bor A)) → MatchOption r ((length (rest s) ≡ 0) × (t ≡ s)) (λ x. rest s ≡ x.now ∷ rest t) → TakesFirst deref (rest s) r (rest t)
+  first_left None h = none_left h
+  first_left (Some x) h = h
+
 -- those that are left, whatever was taken
-pub left_cells : (r : Option (Bor (List ℕ) × Bor (List Entry))) (rs ts : List (List ℕ × List Entry)) → TakesFirst deref_pair rs r ts → HeldCells rs → HeldCells ts
+pub left_cells : (r : Option (Bor (List ℕ × List Entry))) (rs ts : List (List ℕ × List Entry)) → TakesFirst deref rs r ts → HeldCells rs → HeldCells ts
 left_cells None rs ts t h = ([], tt, t.1)
-left_cells (Some x) rs ts t h = let s = split_cells (deref_pair x) ts h t in s.rest
+left_cells (Some x) rs ts t h = let s = split_cells x.now ts h t in s.rest
 
 -- they weigh no more than all, and neither do the elements of the first
 light_parts : (c : Cell) (cs : List Cell) → AreLightCells (c ∷ cs) → AreLight c.1 × AreLightCells cs
 light_parts c cs h = let all : ((1 + length c.0) + sum_by weight_of (items c.1)) + cells_weight (expanded cs) ≤ 2 ^ 30 = h in (omega (arith, all), omega (arith, all))
 
-pub light_cells_left : (r : Option (Bor (List ℕ) × Bor (List Entry))) (rs ts : List (List ℕ × List Entry)) → TakesFirst deref_pair rs r ts → (h : HeldCells rs) (g : HeldCells ts) → AreLightCells (cells_held h)
+pub light_cells_left : (r : Option (Bor (List ℕ × List Entry))) (rs ts : List (List ℕ × List Entry)) → TakesFirst deref rs r ts → (h : HeldCells rs) (g : HeldCells ts) → AreLightCells (cells_held h)
     → AreLightCells (cells_held g)
 light_cells_left None rs ts t h g light = let none : AreLightCells [] = omega arith in subst AreLightCells (sym (no_cells g t.1)) none
-light_cells_left (Some x) rs ts t h g light = let s = split_cells (deref_pair x) ts h t in (light_parts s.first (cells_held g) (subst AreLightCells (s.all_is g) light)).1
+light_cells_left (Some x) rs ts t h g light = let s = split_cells x.now ts h t in (light_parts s.first (cells_held g) (subst AreLightCells (s.all_is g) light)).1
 
 pub first_light : {p : List ℕ × List Entry} {rs : List (List ℕ × List Entry)} {cs : List Cell} (s : SplitCells p rs cs) → AreLightCells cs → {ks : List Entry} → ks ≡ keyed s.first.1 → (h : HeldElements ks)
     → AreLight (elements_held h)

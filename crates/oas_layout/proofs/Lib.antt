@@ -30,6 +30,7 @@ mod StepLemmas
 mod TotalLemmas
 pub mod KeyedLemmas
 pub mod PlaceLemmas
+pub mod SortLemmas
 pub mod RunLemmas
 pub mod FinishLemmas
 pub mod OrderLemmas

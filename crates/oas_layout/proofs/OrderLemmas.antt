@@ -49,7 +49,7 @@ module _ (profile : Profile) where
   are_cells [] n b s = tt
   are_cells (c ∷ cs) n b s = (record { name = n.0; bag = b.0; sound = s.0 }, are_cells cs n.1 b.1 s.1)
 
-  names_ascend : (cs : Cells) → IsStrictlySortedBy (slice_cmp nat_cmp) (names (counted_cells profile cs))
+  pub names_ascend : (cs : Cells) → IsStrictlySortedBy (slice_cmp nat_cmp) (names (counted_cells profile cs))
   names_ascend cs =
       subst (IsStrictlySortedBy (slice_cmp nat_cmp)) (ap (λ (ds : Cells). keys_of ds) (sym (expanded_is cs)) ∙ keys-expanded (counted_cells profile cs)) (is_ordered profile cs).names
 

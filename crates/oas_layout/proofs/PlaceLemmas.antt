@@ -4,11 +4,12 @@ use Rattle.std.specs.List.{AllByRecursion}
 use Rattle.std.specs.Ordering.{nat_cmp, match_ordering}
 use Rattle.std.specs.Cmp.Lexicographic.{slice_cmp}
 use Rattle.std.specs.BTreeMap.{insert_entry}
+use Rattle.std.specs.Map.{keys_of}
 use Rattle.std.specs.FinMap.Entries.{by_order, put}
 use Rattle.std.specs.declared.cmp.Ordering.TheVariants.{Less, Equal, Greater}
 use Rattle.oas_elements.specs.declared.element.Element.{Element}
 use Rattle.oas_elements.specs.Bag.{items}
-use Rattle.oas_elements.specs.Contents.{Cell, expanded}
+use Rattle.oas_elements.specs.Contents.{Cell, expanded, names}
 use Rattle.oas_runs.specs.Entries.{Entry}
 use Rattle.oas_layout.specs.Keyed.{keyed, keyed_cells}
 
@@ -34,16 +35,6 @@ expanded-insert (c ∷ cs) name es =
       | Greater ↦ ap (λ (ds : List (List ℕ × List Element)). (c.0, items c.1) ∷ ds) (expanded-insert cs name es)
     ]
 
--- what holds for the name and for the names that are there holds for all
-pub names-insert : {V : Type 0} (P : List ℕ → Type 0) (cs : List (List ℕ × V)) (name : List ℕ) (v : V) → P name → AllByRecursion (λ c. P c.0) cs → AllByRecursion (λ c. P c.0) (insert_entry (slice_cmp nat_cmp) cs name v)
-names-insert P [] name v h all = (h, tt)
-names-insert {V = V} P (c ∷ cs) name v h all =
-    elim (slice_cmp nat_cmp name c.0) as (λ r. AllByRecursion (λ (c : List ℕ × V). P c.0) (match_ordering r ((name, v) ∷ c ∷ cs) ((c.0, v) ∷ cs) (c ∷ insert_entry (slice_cmp nat_cmp) cs name v))) [
-      | Less ↦ (h, all)
-      | Equal ↦ all
-      | Greater ↦ (all.0, names-insert P cs name v h all.1)
-    ]
-
 -- the names of runs are those of their cells
 pub names-keyed : (P : List ℕ → Type 0) (cs : List Cell) → AllByRecursion (λ r. P r.0) (keyed_cells cs) → AllByRecursion (λ c. P c.0) cs
 names-keyed P [] h = tt
@@ -58,3 +49,7 @@ elements-insert P (c ∷ cs) name es h all =
       | Equal ↦ (h, all.1)
       | Greater ↦ (all.0, elements-insert P cs name es h all.1)
     ]
+
+pub keys-keyed_cells : (cs : List Cell) → keys_of (keyed_cells cs) ≡ names cs
+keys-keyed_cells [] = refl
+keys-keyed_cells (c ∷ cs) = ap (λ (ks : List (List ℕ)). c.0 ∷ ks) (keys-keyed_cells cs)

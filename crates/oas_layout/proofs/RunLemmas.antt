@@ -1,10 +1,14 @@
--- The runs of cells, put by name from the last cell on.
-use Rattle.std.proofs.Common.{◌≡◌, ℕ, List, [], ◌∷◌, ◌++◌, Option, None, Some, refl, sym, ap, ◌∙◌, subst, append_assoc}
+-- The runs of cells, from the last cell on, and then by name.
+use Rattle.std.proofs.Common.{◌≡◌, ◌==◌, ℕ, false, List, [], ◌∷◌, ◌++◌, Option, None, Some, refl, sym, ap, ◌∙◌, subst, append_assoc}
 use Rattle.std.proofs.lemmas.List.{append-nil}
+use Rattle.std.proofs.lemmas.List.Elements.{All-from_recursion, recursion_from_All}
+use Rattle.std.proofs.lemmas.List.Sorted.{IsPermutation-refl, IsPermutation-sym, IsPermutation-trans, IsPermutation-cons, IsPermutation-to_front, All-permutation}
+use Rattle.std.proofs.lemmas.Map.Keys.{IsDistinct-head, IsDistinct-tail}
 use Rattle.std.specs.List.{AllByRecursion}
+use Rattle.std.specs.List.Sorted.{IsPermutation, IsStrictlySortedBy, IsSortedByKey}
+use Rattle.std.specs.Map.{keys_of}
 use Rattle.std.specs.Ordering.{nat_cmp}
-use Rattle.std.specs.Cmp.Lexicographic.{slice_cmp}
-use Rattle.std.specs.BTreeMap.{insert_entry}
+use Rattle.std.specs.Cmp.Lexicographic.{slice_cmp, pointwise}
 use Rattle.oas_num.specs.Texts.{IsName}
 use Rattle.oas_elements.specs.declared.profile.Profile.{Profile}
 use Rattle.oas_elements.specs.declared.element.Element.{Element}
@@ -12,16 +16,18 @@ use Rattle.oas_elements.specs.Sound.{IsSound}
 use Rattle.oas_runs.specs.Entries.{Entry}
 use Rattle.oas_runs.specs.Runs.{IsRun}
 use Rattle.oas_form.specs.Drawn.{Drawn}
-use Rattle.oas_form.specs.Meaning.{DrawnCell, elements_by_name, with_named, cells_by_name}
+use Rattle.oas_form.specs.Meaning.{DrawnCell, elements_by_name, with_named, cells_by_name, has_twice}
 use Rattle.oas_form.specs.References.{cell_by}
 use Rattle.oas_form.specs.Stores.{HoldCells}
 use Rattle.oas_cells.specs.Compact.{Compact, IsCompact, Keeps, compact_store}
 use Rattle.oas_cells.specs.Placing.{MeansElements}
 use Rattle.oas_layout.specs.Keyed.{keyed, keyed_cells}
-use Rattle.oas_layout.specs.Counting.{counted, counted_cells, AreSound, with_run}
-use Rattle.oas_layout.specs.Finishing.{AreNamed, PutsRun, AreRunsOf}
+use Rattle.oas_layout.specs.Counting.{counted, counted_cells, keyed_each, AreSound, with_run}
+use Rattle.oas_layout.specs.Finishing.{AreNamed, PutsRun, AreRuns, AreRunsOf}
 use Rattle.oas_layout.proofs.KeyedLemmas.{run_is}
-use Rattle.oas_layout.proofs.PlaceLemmas.{keyed-insert, names-insert}
+use Rattle.oas_layout.proofs.PlaceLemmas.{keyed-insert, keys-keyed_cells}
+use Rattle.oas_layout.proofs.OrderLemmas.{names_ascend}
+use Rattle.oas_layout.proofs.SortLemmas.{AreApart, apart_from_once, others_apart, put_among, sorted_is}
 
 module _ (profile : Profile) (names strings : List (ℕ × List ℕ)) where
   -- ---- one cell
@@ -34,12 +40,16 @@ module _ (profile : Profile) (names strings : List (ℕ × List ℕ)) where
     run = λ ds h. ap (λ (o : Option (List ℕ)). with_run o (keyed (counted profile (elements_by_name names strings ds))) old) (sym none);
   }
 
+  named_last : (rs : List (List ℕ × List Entry)) (name : List ℕ) (run : List Entry) → IsName name → AreNamed rs → AreNamed (rs ++ (name, run) ∷ [])
+  named_last [] name run fits a = (fits, tt)
+  named_last (r ∷ rs) name run fits a = (a.0, named_last rs name run fits a.1)
+
   -- the run of one that has a name
   pub named : (c : Compact) (old new : List (List ℕ × List Entry)) (name : List ℕ) (run : List Entry) → cell_by names c.cell ≡ Some name → IsName name → IsRun (slice_cmp nat_cmp) run
       → ((ds : List Drawn) → Keeps profile c ds → MeansElements profile run (elements_by_name names strings ds)) → ((ds : List Drawn) → Keeps profile c ds → AllByRecursion IsSound (elements_by_name names strings ds))
-      → new ≡ insert_entry (slice_cmp nat_cmp) old name run → PutsRun profile names strings c old new
+      → new ≡ old ++ (name, run) ∷ [] → PutsRun profile names strings c old new
   named c old new name run called fits ascends means sounds is = record {
-    named = λ a. subst AreNamed (sym is) (names-insert IsName old name run fits a);
+    named = λ a. subst AreNamed (sym is) (named_last old name run fits a);
     sound = λ other e ds h. sounds ds h;
     run = λ ds h. is ∙ (λ i. with_run (sym called i) (run_is profile run (elements_by_name names strings ds) ascends (means ds h) (sounds ds h) i) old);
   }
@@ -53,14 +63,14 @@ module _ (profile : Profile) (names strings : List (ℕ × List ℕ)) where
     pub joined : ds ≡ front ++ back
     pub holds : HoldCells (compact_store profile) left front
     pub sound : AreSound (cells_by_name names strings back)
-    pub are : rs ≡ keyed_cells (counted_cells profile (cells_by_name names strings back))
+    pub are : IsPermutation (keyed_each profile (cells_by_name names strings back)) rs
 
   -- whatever is drawn in all of them
   abbrev pub Putting : List Compact → List Compact → List (List ℕ × List Entry) → Type 0
   Putting all left rs = (ds : List DrawnCell) → HoldCells (compact_store profile) all ds → Split left rs ds
 
   begins : (cs : List Compact) (rs : List (List ℕ × List Entry)) → rs ≡ [] → Putting cs cs rs
-  begins cs rs none ds h = record { front = ds; back = []; joined = sym (append-nil ds); holds = h; sound = tt; are = none }
+  begins cs rs none ds h = record { front = ds; back = []; joined = sym (append-nil ds); holds = h; sound = tt; are = subst (IsPermutation []) (sym none) (IsPermutation-refl []) }
 
   -- a last cell holds what is drawn last
   pub record HoldsLast (front : List Compact) (c : Compact) (ds : List DrawnCell) : Type 0 where
@@ -85,12 +95,14 @@ module _ (profile : Profile) (names strings : List (ℕ × List ℕ)) where
   one_sound None es cs put sound = sound
   one_sound (Some name) es cs put sound = (put name refl, sound)
 
-  -- a run in its place is that of the cell in its place
-  one_more : (o : Option (List ℕ)) (es : List Element) (cs : List (List ℕ × List Element)) (old new : List (List ℕ × List Entry)) → old ≡ keyed_cells (counted_cells profile cs)
-      → new ≡ with_run o (keyed (counted profile es)) old → new ≡ keyed_cells (counted_cells profile (with_named o es cs))
-  one_more None es cs old new was put = put ∙ was
+  -- one more run is that of one more cell
+  one_more : (o : Option (List ℕ)) (es : List Element) (cs : List (List ℕ × List Element)) (old new : List (List ℕ × List Entry)) → IsPermutation (keyed_each profile cs) old
+      → new ≡ with_run o (keyed (counted profile es)) old → IsPermutation (keyed_each profile (with_named o es cs)) new
+  one_more None es cs old new was put = subst (IsPermutation (keyed_each profile cs)) (sym put) was
   one_more (Some name) es cs old new was put =
-      put ∙ ap (λ (rs : List (List ℕ × List Entry)). with_run (Some name) (keyed (counted profile es)) rs) was ∙ keyed-insert (counted_cells profile cs) name (counted profile es)
+      let r : List ℕ × List Entry = (name, keyed (counted profile es)) in
+      subst (IsPermutation (r ∷ keyed_each profile cs)) (sym put)
+      (IsPermutation-trans _ _ _ (IsPermutation-cons r (keyed_each profile cs) old was) (IsPermutation-sym _ _ (IsPermutation-to_front old r)))
 
   -- one more cell
   goes_on : (all left rest : List Compact) (c : Compact) (old new : List (List ℕ × List Entry)) → left ≡ rest ++ c ∷ [] → Putting all left old
@@ -133,11 +145,11 @@ module _ (profile : Profile) (names strings : List (ℕ × List ℕ)) where
   }
 
   -- no cell is left
-  pub loop_ends : (all left : List Compact) (rs : List (List ℕ × List Entry)) → left ≡ [] → Looped all left rs → AreRunsOf profile names strings all rs
+  pub loop_ends : (all left : List Compact) (rs : List (List ℕ × List Entry)) → left ≡ [] → Looped all left rs → AreRuns profile names strings all rs
   loop_ends all left rs none l = record {
     named = l.named;
     sound = λ ds h. let s = l.put ds h in subst (λ (xs : List DrawnCell). AreSound (cells_by_name names strings xs)) (sym (whole ds s)) s.sound;
-    runs = λ ds h. let s = l.put ds h in s.are ∙ ap (λ (xs : List DrawnCell). keyed_cells (counted_cells profile (cells_by_name names strings xs))) (sym (whole ds s));
+    runs = λ ds h. let s = l.put ds h in subst (λ (xs : List DrawnCell). IsPermutation (keyed_each profile (cells_by_name names strings xs)) rs) (sym (whole ds s)) s.are;
   }
     where
       none_held : (ds : List DrawnCell) → HoldCells (compact_store profile) [] ds → ds ≡ []
@@ -146,3 +158,35 @@ module _ (profile : Profile) (names strings : List (ℕ × List ℕ)) where
 
       whole : (ds : List DrawnCell) (s : Split left rs ds) → ds ≡ s.back
       whole ds s = s.joined ∙ ap (λ (xs : List DrawnCell). xs ++ s.back) (none_held s.front (subst (λ (cs : List Compact). HoldCells (compact_store profile) cs s.front) none s.holds))
+
+  -- ---- by name
+
+  names_each : (cs : List (List ℕ × List Element)) → keys_of (keyed_each profile cs) ≡ keys_of cs
+  names_each [] = refl
+  names_each (c ∷ cs) = ap (λ (ns : List (List ℕ)). c.0 ∷ ns) (names_each cs)
+
+  -- where no two names are equal, the cells in their places are the same cells
+  each_placed : (cs : List (List ℕ × List Element)) → AreApart (keys_of cs) → IsPermutation (keyed_each profile cs) (keyed_cells (counted_cells profile cs))
+  each_placed [] apart = IsPermutation-refl []
+  each_placed (c ∷ cs) apart =
+      let rs = keyed_cells (counted_cells profile cs) in
+      let r : List ℕ × List Entry = (c.0, keyed (counted profile c.1)) in
+      let rest : IsPermutation (keyed_each profile cs) rs = each_placed cs (IsDistinct-tail (pointwise ◌==◌) c.0 (keys_of cs) apart) in
+      let new : AllByRecursion (λ m. pointwise ◌==◌ c.0 m ≡ false) (keys_of rs) = others_apart c.0 (keyed_each profile cs) rs rest
+      (subst (λ (ns : List (List ℕ)). AllByRecursion (λ m. pointwise ◌==◌ c.0 m ≡ false) ns) (sym (names_each cs)) (IsDistinct-head (pointwise ◌==◌) c.0 (keys_of cs) apart)) in
+      IsPermutation-trans _ _ _ (IsPermutation-cons r (keyed_each profile cs) rs rest)
+      (subst (IsPermutation (r ∷ rs)) (keyed-insert (counted_cells profile cs) c.0 (counted profile c.1)) (put_among rs c.0 (keyed (counted profile c.1)) new))
+
+  pub by_name : (cs : List Compact) (rs ts : List (List ℕ × List Entry)) → AreRuns profile names strings cs rs
+      → ((ds : List DrawnCell) → HoldCells (compact_store profile) cs ds → has_twice (keys_of (cells_by_name names strings ds)) ≡ false)
+      → IsPermutation rs ts → IsSortedByKey (λ r. r.0) (slice_cmp nat_cmp) ts → AreRunsOf profile names strings cs ts
+  by_name cs rs ts are once same sorted = record {
+    named = recursion_from_All (λ r. IsName r.0) ts (All-permutation (λ r. IsName r.0) rs ts same (All-from_recursion (λ r. IsName r.0) rs are.named));
+    sound = are.sound;
+    runs = λ ds h.
+        let drawn = cells_by_name names strings ds in
+        let placed = each_placed drawn (apart_from_once (keys_of drawn) (once ds h)) in
+        sorted_is (keyed_cells (counted_cells profile drawn)) ts
+        (subst (IsStrictlySortedBy (slice_cmp nat_cmp)) (sym (keys-keyed_cells (counted_cells profile drawn))) (names_ascend profile drawn))
+        (IsPermutation-trans _ _ _ (IsPermutation-sym _ _ placed) (IsPermutation-trans _ _ _ (are.runs ds h) same)) sorted;
+  }

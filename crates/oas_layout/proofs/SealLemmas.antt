@@ -1,19 +1,12 @@
 -- The cells of a draft, put by name.
-use Rattle.std.proofs.Common.{◌≡◌, ◌==◌, ℕ, ◌+◌, false, List, [], ◌∷◌, ◌++◌, length, refl, sym, ap, subst, ◌∙◌, true≢false, arith}
-use Rattle.std.specs.Prelude.{sum_by, Result, Ok, Err, OnOk}
-use Rattle.std.specs.Result.{is_err}
-use Rattle.std.specs.List.{AllByRecursion, IsDistinct}
-use Rattle.std.specs.List.Sorted.{IsStrictlySortedBy, IsPermutation}
+use Rattle.std.proofs.Common.{◌≡◌, ℕ, ◌+◌, ◌<◌, List, [], ◌∷◌, ◌++◌, length, map, refl, sym, ap, subst, ◌∙◌, append_assoc, arith}
+use Rattle.std.specs.Prelude.{sum_by, slice_set, slice_index_or}
+use Rattle.std.specs.List.{AllByRecursion, swap}
+use Rattle.std.specs.List.Sorted.{IsStrictlySortedBy, IsPermutation, IsSortedByKey}
 use Rattle.std.specs.Map.{keys_of}
-use Rattle.std.specs.BTreeMap.{insert_entry}
-use Rattle.std.specs.Ordering.{is_eq, match_ordering}
-use Rattle.std.specs.declared.cmp.Ordering.TheVariants.{Less, Equal, Greater}
-use Rattle.std.specs.Cmp.Lexicographic.{pointwise, texts_ties}
-use Rattle.std.proofs.lemmas.Cmp.{nat_list_eq_equiv}
-use Rattle.std.proofs.lemmas.List.{append-nil}
+use Rattle.std.proofs.lemmas.List.{append-nil, map-set, get_or-map}
 use Rattle.std.proofs.lemmas.List.Elements.{All-from_recursion, recursion_from_All}
-use Rattle.std.proofs.lemmas.List.Sorted.{IsPermutation-refl, IsPermutation-sym, IsPermutation-trans, IsPermutation-cons, IsPermutation-middle, IsPermutation-append_left, IsPermutation-map, All-permutation}
-use Rattle.std.proofs.lemmas.Map.Keys.{IsDistinct-IsPermutation}
+use Rattle.std.proofs.lemmas.List.Sorted.{IsPermutation-refl, IsPermutation-trans, IsPermutation-swap, IsPermutation-keeps, All-permutation}
 use Rattle.oas_elements.specs.declared.element.Element.{Element}
 use Rattle.oas_elements.specs.Contents.{Cell, Contents, names, AllSound, IsCell, IsCounted, IsLayout, IsSealed}
 use Rattle.oas_elements.specs.Sound.{IsUnit}
@@ -23,86 +16,96 @@ use Rattle.oas_runs.specs.Entries.{Entry}
 use Rattle.oas_layout.specs.Keyed.{keyed, keyed_cells}
 use Rattle.oas_layout.specs.Held.{AreSoundCells, HeldCells, cells_held, contents_of}
 use Rattle.oas_layout.specs.Laws.HeldLaws.{cells_are}
-use Rattle.oas_layout.specs.Sealing.{AreByName}
-use Rattle.oas_layout.proofs.PlaceLemmas.{keyed-insert, elements-insert}
+use Rattle.oas_layout.specs.Sealing.{AreInOrder, AreByName}
+use Rattle.oas_layout.proofs.HeldLemmas.{length-keyed_cells}
+use Rattle.oas_layout.proofs.PlaceLemmas.{keys-keyed_cells}
+use Rattle.oas_layout.proofs.SortLemmas.{AreApart, still_apart, strictly}
 
--- ---- one more cell in its place
+-- ---- the loop over the cells
 
--- a name that is not there goes among the others
-put_among : (cs : List Cell) (name : List ℕ) (es : List (Element × ℕ)) → AllByRecursion (λ (c : Cell). is_eq (name_cmp name c.0) ≡ false) cs → IsPermutation ((name, es) ∷ cs) (insert_entry name_cmp cs name es)
-put_among [] name es h = IsPermutation-refl _
-put_among (c ∷ cs) name es h =
-    elim (name_cmp name c.0) as (λ r. is_eq r ≡ false → IsPermutation ((name, es) ∷ c ∷ cs) (match_ordering r ((name, es) ∷ c ∷ cs) ((c.0, es) ∷ cs) (c ∷ insert_entry name_cmp cs name es))) [
-      | Less ↦ λ e. IsPermutation-refl _
-      | Equal ↦ λ e. absurd (true≢false e)
-      | Greater ↦ λ e. IsPermutation-trans _ _ _ (IsPermutation-sym _ _ (IsPermutation-middle (c ∷ []) (name, es) cs)) (IsPermutation-cons c _ _ (put_among cs name es h.1))
-    ] h.0
+-- some are closed, and the rest are left
+pub record Closing (all rest : List Cell) (rs : List (List ℕ × List Entry)) : Type 0 where
+  pub apart : AreApart (names all)
+  pub closed : List Cell
+  pub joined : all ≡ closed ++ rest
+  pub sound : AreSoundCells closed
+  pub are : rs ≡ keyed_cells closed
 
--- what holds of all names holds of one among them
-at_name : (P : List ℕ → Type 0) (cs rest : List Cell) (c : Cell) → AllByRecursion P (keys_of (cs ++ c ∷ rest)) → P c.0
-at_name P [] rest c h = h.0
-at_name P (d ∷ ds) rest c h = at_name P ds rest c h.1
+pub begins : (all rest : List Cell) (rs : List (List ℕ × List Entry)) → AreApart (names all) → rest ≡ all → rs ≡ [] → Closing all rest rs
+begins all rest rs apart e none = record { apart = apart; closed = []; joined = sym e; sound = tt; are = none }
 
--- a name behind others, no two of them equal, is none of these
-apart : (cs rest : List Cell) (c : Cell) → IsDistinct (pointwise ◌==◌) (keys_of (cs ++ c ∷ rest)) → AllByRecursion (λ (d : Cell). is_eq (name_cmp c.0 d.0) ≡ false) cs
-unfolding IsDistinct
-apart [] rest c h = tt
-apart (d ∷ ds) rest c h = (
-  sym (texts_ties c.0 d.0) ∙ nat_list_eq_equiv.symm c.0 d.0 ∙ at_name (λ k. pointwise ◌==◌ d.0 k ≡ false) ds rest c h.0,
-  apart ds rest c h.1,
-)
+sound_last : (cs : List Cell) (c : Cell) → AreSoundCells cs → AllSound c.1 → AreSoundCells (cs ++ c ∷ [])
+sound_last [] c all sound = (sound, tt)
+sound_last (d ∷ ds) c all sound = (all.0, sound_last ds c all.1 sound)
 
--- the names of runs are those of the cells
-keys-keyed_cells : (cs : List Cell) → keys_of (keyed_cells cs) ≡ names cs
-keys-keyed_cells [] = refl
-keys-keyed_cells (c ∷ cs) = ap (λ (ks : List (List ℕ)). c.0 ∷ ks) (keys-keyed_cells cs)
-
--- what is said of an outcome that is no error
-pub if_ok : {X E P : Type 0} (r : Result X E) → is_err r ≡ false → OnOk r P → P
-if_ok (Ok x) e p = p
-if_ok (Err x) e p = absurd (true≢false e)
-
--- ---- the loop over them
-
--- some are put, and the rest are left
-pub record Putting (all rest : List Cell) (rs : List (List ℕ × List Entry)) : Type 0 where
-  pub differ : IsDistinct (pointwise ◌==◌) (keys_of all)
-  pub put : List Cell
-  pub same : IsPermutation all (put ++ rest)
-  pub ascending : IsStrictlySortedBy name_cmp (names put)
-  pub sound : AreSoundCells put
-  pub are : rs ≡ keyed_cells put
-
-pub begins : (all rest : List Cell) (rs : List (List ℕ × List Entry)) → IsDistinct (pointwise ◌==◌) (keys_of all) → rest ≡ all → rs ≡ [] → Putting all rest rs
-unfolding IsStrictlySortedBy
-begins all rest rs differ e none = record { differ = differ; put = []; same = subst (IsPermutation all) (sym e) (IsPermutation-refl all); ascending = tt; sound = tt; are = none }
+keyed_last : (cs : List Cell) (c : Cell) → keyed_cells cs ++ (c.0, keyed c.1) ∷ [] ≡ keyed_cells (cs ++ c ∷ [])
+keyed_last [] c = refl
+keyed_last (d ∷ ds) c = ap (λ (rs : List (List ℕ × List Entry)). (d.0, keyed d.1) ∷ rs) (keyed_last ds c)
 
 pub goes_on : (all rest later : List Cell) (name : List ℕ) (es : List (Element × ℕ)) (run : List Entry) (rs ts : List (List ℕ × List Entry))
-    → rest ≡ (name, es) ∷ later → AllSound es → run ≡ keyed es → ts ≡ insert_entry name_cmp rs name run → IsStrictlySortedBy name_cmp (keys_of ts) → Putting all rest rs → Putting all later ts
-goes_on all rest later name es run rs ts is sound run_is ts_is up p =
+    → rest ≡ (name, es) ∷ later → AllSound es → run ≡ keyed es → ts ≡ rs ++ (name, run) ∷ [] → Closing all rest rs → Closing all later ts
+goes_on all rest later name es run rs ts is sound run_is ts_is p =
     let c : Cell = (name, es) in
-    let new : List Cell = insert_entry name_cmp p.put name es in
-    let here : IsPermutation all (p.put ++ c ∷ later) = subst (λ (l : List Cell). IsPermutation all (p.put ++ l)) is p.same in
-    let apart_all : IsDistinct (pointwise ◌==◌) (keys_of (p.put ++ c ∷ later)) =
-    IsDistinct-IsPermutation (pointwise ◌==◌) nat_list_eq_equiv.symm (keys_of all) (keys_of (p.put ++ c ∷ later)) (IsPermutation-map (λ (d : Cell). d.0) all (p.put ++ c ∷ later) here) p.differ in
-    let are : ts ≡ keyed_cells new = ts_is ∙ (λ i. insert_entry name_cmp (p.are i) name (run_is i)) ∙ keyed-insert p.put name es in
     record {
-      differ = p.differ;
-      put = new;
-      same = IsPermutation-trans _ _ _ here (IsPermutation-trans _ _ _ (IsPermutation-middle p.put c later) (IsPermutation-append_left later (c ∷ p.put) new (put_among p.put name es (apart p.put later c apart_all))));
-      ascending = subst (IsStrictlySortedBy name_cmp) (ap (λ (l : List (List ℕ × List Entry)). keys_of l) are ∙ keys-keyed_cells new) up;
-      sound = elements-insert AllSound p.put name es sound p.sound;
-      are = are;
+      apart = p.apart;
+      closed = p.closed ++ c ∷ [];
+      joined = p.joined ∙ ap (λ (l : List Cell). p.closed ++ l) is ∙ sym (append_assoc p.closed (c ∷ []) later);
+      sound = sound_last p.closed c p.sound sound;
+      are = ts_is ∙ (λ i. p.are i ++ (name, run_is i) ∷ []) ∙ keyed_last p.closed c;
     }
 
-pub all_put : (all rest : List Cell) (rs : List (List ℕ × List Entry)) → rest ≡ [] → Putting all rest rs → AreByName all rs
-all_put all rest rs none p = record {
-  sorted = p.put;
-  same = subst (IsPermutation all) (ap (λ (l : List Cell). p.put ++ l) none ∙ append-nil p.put) p.same;
-  ascending = p.ascending;
-  sound = p.sound;
-  are = p.are;
-}
+pub all_closed : (all rest : List Cell) (rs : List (List ℕ × List Entry)) → rest ≡ [] → Closing all rest rs → AreInOrder all rs
+all_closed all rest rs none p =
+    let whole : p.closed ≡ all = sym (p.joined ∙ ap (λ (l : List Cell). p.closed ++ l) none ∙ append-nil p.closed) in
+    record { apart = p.apart; sound = subst AreSoundCells whole p.sound; are = p.are ∙ ap keyed_cells whole }
+
+-- ---- their runs in another order
+
+swap-keyed : (cs : List Cell) (i j : ℕ) → i < length cs → j < length cs → swap (keyed_cells cs) i j ≡ keyed_cells (swap cs i j)
+swap-keyed [] i j p q = refl
+swap-keyed (c ∷ cs) i j p q =
+    let f : Cell → List ℕ × List Entry = λ d. (d.0, keyed d.1) in
+    let at_i = get_or-map f (c ∷ cs) i c (f c) p in
+    let at_j = get_or-map f (c ∷ cs) j c (f c) q in
+    (λ t. swap (keyed-map (c ∷ cs) t) i j)
+    ∙ (λ t. slice_set (slice_set (map f (c ∷ cs)) i (at_j t)) j (at_i t))
+    ∙ sym (map-set f (slice_set (c ∷ cs) i (slice_index_or (c ∷ cs) j c)) j (slice_index_or (c ∷ cs) i c) ∙ (λ t. slice_set (map-set f (c ∷ cs) i (slice_index_or (c ∷ cs) j c) t) j (f (slice_index_or (c ∷ cs) i c))))
+    ∙ sym (keyed-map (swap (c ∷ cs) i j))
+  where
+    keyed-map : (ds : List Cell) → keyed_cells ds ≡ map (λ (d : Cell). (d.0, keyed d.1)) ds
+    keyed-map [] = refl
+    keyed-map (d ∷ ds) = ap (λ (rs : List (List ℕ × List Entry)). (d.0, keyed d.1) ∷ rs) (keyed-map ds)
+
+-- they are the runs of the cells in that order
+record Moved (cs : List Cell) (rs : List (List ℕ × List Entry)) : Type 0 where
+  pub cells : List Cell
+  pub same : IsPermutation cs cells
+  pub are : rs ≡ keyed_cells cells
+
+moved : (cs : List Cell) (rs : List (List ℕ × List Entry)) → IsPermutation (keyed_cells cs) rs → Moved cs rs
+moved cs rs = IsPermutation-keeps (keyed_cells cs) (Moved cs) (record { cells = cs; same = IsPermutation-refl cs; are = refl }) step rs where
+  step : (ts : List (List ℕ × List Entry)) (i j : ℕ) → i < length ts → j < length ts → Moved cs ts → Moved cs (swap ts i j)
+  step ts i j p q m =
+      let long : length ts ≡ length m.cells = ap length m.are ∙ length-keyed_cells m.cells in
+      let inside : i < length m.cells = omega (arith, p, long) in
+      let also : j < length m.cells = omega (arith, q, long) in
+      record {
+        cells = swap m.cells i j;
+        same = IsPermutation-trans _ _ _ m.same (IsPermutation-swap m.cells (swap m.cells i j) i j inside also refl);
+        are = ap (λ (us : List (List ℕ × List Entry)). swap us i j) m.are ∙ swap-keyed m.cells i j inside also;
+      }
+
+pub by_name : (cs : List Cell) (rs ts : List (List ℕ × List Entry)) → AreInOrder cs rs → IsPermutation rs ts → IsSortedByKey (λ r. r.0) name_cmp ts → AreByName cs ts
+by_name cs rs ts are same up =
+    let m = moved cs ts (subst (λ (us : List (List ℕ × List Entry)). IsPermutation us ts) are.are same) in
+    let apart : AreApart (keys_of ts) = still_apart rs ts same (subst AreApart (sym (ap (λ (us : List (List ℕ × List Entry)). keys_of us) are.are ∙ keys-keyed_cells cs)) are.apart) in
+    record {
+      sorted = m.cells;
+      same = m.same;
+      ascending = subst (IsStrictlySortedBy name_cmp) (ap (λ (us : List (List ℕ × List Entry)). keys_of us) m.are ∙ keys-keyed_cells m.cells) (strictly ts up apart);
+      sound = recursion_from_All (λ (c : Cell). AllSound c.1) m.cells (All-permutation (λ (c : Cell). AllSound c.1) cs m.cells m.same (All-from_recursion (λ (c : Cell). AllSound c.1) cs are.sound));
+      are = m.are;
+    }
 
 -- ---- the layout of these runs
 

@@ -1,35 +1,36 @@
 //! From cells that are held as keys to the layout of their runs.
 
-ghost use Rattle.std.specs.Prelude.{◌≡◌, ◌≤◌, ◌⊎◌, None, Some, List, OnOk, IfOk, IfErr};
+ghost use Rattle.std.specs.Prelude.{◌≡◌, ◌≤◌, ◌⊎◌, false, None, Some, List, OnOk, IfOk, IfErr};
 ghost use Rattle.std.specs.List.{AllByRecursion};
+ghost use Rattle.std.specs.Map.{keys_of};
 ghost use Rattle.oas_num.specs.declared.refusals.Why.TheVariants.{Memory};
 ghost use Rattle.oas_record.specs.declared.records.Record.{Record as OneRecord};
-ghost use Rattle.oas_form.specs.Meaning.{DrawnCell, end_reason, meaning_by};
+ghost use Rattle.oas_form.specs.Meaning.{DrawnCell, cells_by_name, has_twice, end_reason, meaning_by};
 ghost use Rattle.oas_form.specs.Stands.{Represents, records_mean, end_refusal};
 ghost use Rattle.oas_form.specs.Stores.{HoldCells, total_count};
 ghost use Rattle.oas_cells.specs.Compact.{IsCompact, compact_store};
-ghost use Rattle.oas_layout.specs.Finishing.{PutsRun, AreRunsOf};
+ghost use Rattle.oas_layout.specs.Finishing.{PutsRun, AreRuns, AreRunsOf};
 ghost use Rattle.oas_layout.specs.LayoutOf.{IsLayoutOf};
 
 use crate::layout::Layout;
+use crate::sorting::sort_by_name;
 use oas_cells::{CompactCell, KeptBy};
 use oas_elements::unit_fits;
 use oas_form::{CellStore, NameTable, Reader, Taken, accept_cells, cell_meant};
 use oas_num::{Label, Name, Refusal, Why};
 use oas_runs::Run;
 use std::alloc::Global;
-use std::collections::BTreeMap;
 
-/// Puts the run of a cell among those by name, where it has one.
+/// Puts the run of a cell behind the others, with its name, where it has one.
 fn put_run<P: KeptBy>(
     alloc: Global,
     cell: CompactCell<P>,
     names: &NameTable<Name>,
     strings: &NameTable<Label>,
-    runs: &mut BTreeMap<Name, Run>,
+    runs: &mut Vec<(Name, Run)>,
 ) -> Result<(), Why>
     requires { IsCompact P.profile cell }
-    ensures ok { OnOk result (PutsRun P.profile names.now.named strings.now.named cell runs.old.entries runs.new.entries) }
+    ensures ok { OnOk result (PutsRun P.profile names.now.named strings.now.named cell runs.old.items runs.new.items) }
     ensures err { IfErr result (λ why. why ≡ Memory) }
 {
     let Some(meant) = cell_meant(names, cell.cell()) else {
@@ -41,7 +42,7 @@ fn put_run<P: KeptBy>(
     // The proof takes from this call that the bytes are a name's.
     let _bytes = name.as_bytes();
     let run = cell.into_run(names, strings)?;
-    runs.insert(name, run)?;
+    runs.push((name, run))?;
     Ok(())
 }
 
@@ -58,23 +59,40 @@ fn fit<P: KeptBy>(cells: &mut Vec<CompactCell<P>>)
     }
 }
 
-/// The runs of all cells, by name.
-fn runs_by_name<P: KeptBy>(
+/// The runs of all cells, from the last cell on.
+fn runs_of<P: KeptBy>(
     alloc: Global,
     cells: Vec<CompactCell<P>>,
     names: &NameTable<Name>,
     strings: &NameTable<Label>,
-) -> Result<BTreeMap<Name, Run>, Why>
+) -> Result<Vec<(Name, Run)>, Why>
     requires { AllByRecursion (IsCompact P.profile) cells.items }
-    ensures ok { IfOk result (λ runs. AreRunsOf P.profile names.now.named strings.now.named cells.items runs.entries) }
+    ensures ok { IfOk result (λ runs. AreRuns P.profile names.now.named strings.now.named cells.items runs.items) }
     ensures err { IfErr result (λ why. why ≡ Memory) }
 {
-    let mut runs = BTreeMap::new(alloc);
+    let mut runs = Vec::with_capacity(alloc, cells.len())?;
     let mut left = cells;
     while let Some(cell) = left.pop() {
         put_run(alloc, cell, names, strings, &mut runs)?;
         fit(&mut left);
     }
+    Ok(runs)
+}
+
+/// The runs of all cells, by ascending names, where no two cells have one name.
+fn runs_by_name<P: KeptBy>(
+    alloc: Global,
+    cells: Vec<CompactCell<P>>,
+    names: &NameTable<Name>,
+    strings: &NameTable<Label>,
+) -> Result<Vec<(Name, Run)>, Why>
+    requires sound { AllByRecursion (IsCompact P.profile) cells.items }
+    requires once { (ds : List DrawnCell) → HoldCells (compact_store P.profile) cells.items ds → has_twice (keys_of (cells_by_name names.now.named strings.now.named ds)) ≡ false }
+    ensures ok { IfOk result (λ runs. AreRunsOf P.profile names.now.named strings.now.named cells.items runs.items) }
+    ensures err { IfErr result (λ why. why ≡ Memory) }
+{
+    let mut runs = runs_of(alloc, cells, names, strings)?;
+    sort_by_name(&mut runs);
     Ok(runs)
 }
 

@@ -10,7 +10,6 @@ use crate::cells::Cells;
 use oas_elements::{Limits, Profile};
 use oas_num::{Fraction, Name};
 use oas_runs::Run;
-use std::collections::BTreeMap;
 use std::marker::Model;
 
 /// A layout: its unit, and by ascending names its cells, each as the run of the keys of its elements in the form in which a
@@ -20,8 +19,8 @@ pub struct Layout {
     pub(crate) unit: Fraction,
     limits: Limits,
     profile: Profile,
-    pub(crate) cells: BTreeMap<Name, Run>,
-    ghost held: { HeldCells cells.entries } by { held_cells_prop cells.entries },
+    pub(crate) cells: Vec<(Name, Run)>,
+    ghost held: { HeldCells cells.items } by { held_cells_prop cells.items },
 }
 
 impl Model for Layout {
@@ -41,11 +40,11 @@ impl Layout {
         unit: Fraction,
         limits: Limits,
         profile: Profile,
-        cells: BTreeMap<Name, Run>,
+        cells: Vec<(Name, Run)>,
     ) -> Layout
-        requires held { HeldCells cells.entries }
-        requires layout { (h : HeldCells cells.entries) → IsLayout (contents_of unit limits profile (cells_held h)) }
-        ensures { (cs : List Cell) → AreSoundCells cs → cells.entries ≡ keyed_cells cs → result ≡ contents_of unit limits profile cs }
+        requires held { HeldCells cells.items }
+        requires layout { (h : HeldCells cells.items) → IsLayout (contents_of unit limits profile (cells_held h)) }
+        ensures { (cs : List Cell) → AreSoundCells cs → cells.items ≡ keyed_cells cs → result ≡ contents_of unit limits profile cs }
     {
         Layout {
             unit,

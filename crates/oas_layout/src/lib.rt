@@ -22,8 +22,10 @@
 //! # How it is built
 //!
 //! - src/reading.rt is a reader with the stores of oas_cells. src/finishing.rt takes what that reader hands over, has it accepted, and
-//!   puts the run of each cell among those by name, from the last cell on, so that a cell's store is freed before the next run is made.
+//!   makes the run of each cell, from the last cell on, so that a cell's store is freed before the next run is made.
 //!   The room of the freed cells is given back each time when it is a sixteenth of all (`fit`).
+//! - src/sorting.rt: a layout has its runs in a list, which is sorted by their names once, in place, after all are made. Where no two names
+//!   are equal there is one such list (`sorted_is`, proofs/SortLemmas.antt), so it is that in which each cell was put in its place.
 //! - specs/Held.antt: keys are of one list of elements at most (specs/Laws/HeldLaws.antt), and what is left of a key has one list
 //!   of points at most (PointsLaws.antt). So a type that holds keys has a ghost field with that list, which is nothing at run
 //!   time, and is seen as it; proofs/HeldLemmas.antt has what is taken of both.
@@ -38,7 +40,7 @@
 //!   and reads no element. Elements with equal keys are equal, so cells with equal runs are equal
 //!   (proofs/SamenessLemmas.antt), and oas_elements proves that these are the same layout.
 //! - src/draft_cell.rt holds the elements of a cell of a draft in the store that a reader's cell has (`ElementStore` of oas_cells).
-//!   src/sealing.rt puts their runs by name.
+//!   src/sealing.rt makes their runs, and sorts these.
 #![tactic(auto)]
 
 mod cells;
@@ -56,6 +58,7 @@ mod sameness;
 mod sealing;
 mod showing;
 mod shown;
+mod sorting;
 mod totals;
 
 // The crates below, for those above.

@@ -9,6 +9,7 @@ pub mod WeightLemmas
 pub mod UsedLemmas
 pub mod HeldLemmas
 pub mod Twice
+pub mod InOrder
 pub mod Ascending
 pub mod Alike
 pub mod StoreLemmas

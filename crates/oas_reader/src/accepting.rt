@@ -3,9 +3,9 @@
 ghost use Rattle.std.specs.Prelude.{◌≡◌, ◌⊎◌, ℕ, List, true, false, None, Some, OnOk, IfOk, IfErr, map};
 ghost use Rattle.std.specs.Cmp.Lexicographic.{slice_cmp};
 ghost use Rattle.std.specs.declared.cmp.Ordering.TheVariants.{Less};
-ghost use Rattle.std.specs.Ordering.{nat_cmp};
+ghost use Rattle.std.specs.Ordering.{nat_cmp, is_lt};
 ghost use Rattle.std.specs.Option.{option_copied};
-ghost use Rattle.std.specs.List.{AllByRecursion};
+ghost use Rattle.std.specs.List.{AllByRecursion, IsAllAdjacentAnswer};
 ghost use Rattle.oas_num.specs.declared.refusals.Why.TheVariants.{Memory};
 ghost use Rattle.oas_reader.specs.Meaning.{DrawnCell, end_reason, has_twice, names_meant};
 ghost use Rattle.oas_reader.specs.Stores.{HoldCells};
@@ -14,6 +14,7 @@ ghost use Rattle.oas_reader.specs.Counted.{counted_store};
 ghost use Rattle.oas_reader.specs.Parts.{Sound, cells};
 
 use crate::counted::CountedCell;
+use crate::fronts::fronted_names;
 use crate::meant::cell_meant;
 use crate::names::NameTable;
 use crate::parts::{Parts, all_cells};
@@ -21,7 +22,6 @@ use crate::stores::{CellStore, Weighed};
 use oas_elements::Limits;
 use oas_num::{Label, Name, Why};
 use std::alloc::Global;
-use std::collections::BTreeSet;
 
 /// Accepts what is counted: exactly what END doesn't refuse.
 pub(crate) fn accept_end(parts: Parts<CountedCell>) -> Result<(), Why>
@@ -131,7 +131,7 @@ fn names_twice<S: CellStore>(
     name_again(alloc, cells, names)
 }
 
-/// The same, by a set of the names. It is ordered, so that no choice of names makes it slow.
+/// Whether two cells have one name, by all names in order: no choice of names makes that slow.
 fn name_again<S: CellStore>(
     alloc: Global,
     cells: &[S],
@@ -140,13 +140,20 @@ fn name_again<S: CellStore>(
     ensures twice { IfOk result (λ b. b ≡ has_twice (names_meant names.now.named (map S.store.cell cells.now))) }
     ensures err { IfErr result (λ why. why ≡ Memory) }
 {
-    let mut seen = BTreeSet::new(alloc);
-    for cell in cells {
-        if let Some(name) = cell_meant(names, cell.cell()) {
-            if !seen.insert(name)? {
-                return Ok(true);
-            }
-        }
+    let mut all = fronted_names(alloc, cells, names)?;
+    // Nothing is promised of fronts, so that a proof takes the order from the second sort alone. There is nothing left for it
+    // to do, and it isn't needed where no name is there twice.
+    all.sort_unstable();
+    if ascend(&all) {
+        return Ok(false);
     }
-    Ok(false)
+    all.sort_unstable_by(|one, other| one.1.cmp(other.1));
+    Ok(!ascend(&all))
+}
+
+/// Whether each name is above the one before it.
+fn ascend(names: &[(u64, &Name)]) -> bool
+    ensures { IsAllAdjacentAnswer (λ x y b. b ≡ is_lt (slice_cmp nat_cmp x.1.now y.1.now)) names.now result }
+{
+    names.is_sorted_by(|one, other| one.1 < other.1)
 }

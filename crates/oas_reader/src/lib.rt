@@ -59,7 +59,8 @@
 //!   a loop (`Adding`); oas_cells uses it too.
 //! - src/accepting.rt: END looks for numbers without a name, for names that occur twice (`names_twice`), and at the weight of
 //!   all cells (`all_weight`). Where the names ascend, as in a canonical file, none occurs twice (proofs/Ascending.antt); else
-//!   they are put into a set (proofs/Twice.antt). It asks each cell for its weight alone, whatever that keeps. The weight of the cells is known
+//!   they are sorted, and two that are equal are neighbours (proofs/InOrder.antt). Beside each name is its front, the eight bytes after
+//!   what all names begin with (src/fronts.rt), which decides most comparisons. It asks each cell for its weight alone, whatever that keeps. The weight of the cells is known
 //!   from what was drawn in them (`all_known`, proofs/WeighLemmas.antt), and with it the reason (proofs/AcceptLemmas.antt).
 //! - specs/Held.antt: what is drawn with counts, in ascending order; oas_cells keeps by it what waits for names.
 //! - src/stores.rt, specs/Stores.antt: where what is drawn is collected (`CellStore`), as a trait whose ghost member `store`
@@ -88,6 +89,7 @@
 mod accepting;
 mod copying;
 mod counted;
+mod fronts;
 pub mod laws;
 mod meant;
 pub mod name_laws;

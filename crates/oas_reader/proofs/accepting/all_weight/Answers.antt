@@ -1,4 +1,4 @@
-use Rattle.std.proofs.Common.{List, ◌≡◌, ℕ, ◌+◌, ◌∷◌, drop, sym, ◌∙◌, ap, subst, add-one}
+use Rattle.std.proofs.Common.{ℕ, ◌+◌, ◌∷◌, drop, sym, ◌∙◌, ap, subst, add-one}
 use Rattle.oas_reader.proofs.Twice.{drop_one}
 use Rattle.oas_reader.proofs.WeighLemmas.{Weighed, weighed_none, weighed_more}
 use Rattle.oas_reader.proofs.accepting.all_weight.Goals as goal
