@@ -94,9 +94,9 @@ pub use keys::key;
 pub use oas_elements::{Element, Extensions, Layer, Limits, Profile, Turns};
 pub use oas_judge::{
     ByProfileOne, ByProfileTwo, Cells, CompactCell, Draft, Elements, KeptBy, KeptSource,
-    KeyedElement, Layout, Refused, ShownElement, ShownPoints, Start, find_end_of_input,
-    finish_layout, has_canonical_bytes, put_canonical, put_listing, read_layout, show,
-    write_canonical, write_listing,
+    KeyedElement, Layout, Refused, ShownElement, ShownPoints, find_end_of_input, finish_layout,
+    has_canonical_bytes, put_canonical, put_listing, read_layout, show, write_canonical,
+    write_listing,
 };
 pub use oas_num::{
     Counter, Device, Fraction, INPUT_MAX, Label, Name, NotedWriter, Outlet, ReaderSource, Reason,

@@ -24,7 +24,7 @@ use Rattle.oas_writing.specs.Records.{element_record, line_of, first_of, steps_f
 use Rattle.oas_writing.specs.FormJudge.{FormJudge}
 use Rattle.oas_writing.specs.Judging.{GoesOnDrawing}
 use Rattle.oas_judge.specs.Peeked.{IsFigureBy}
-use Rattle.oas_judge.specs.FileJudges.{holds, GoesOnPeeked}
+use Rattle.oas_judge.specs.FileJudges.{holds, GoesOnTaking}
 use Rattle.oas_judge.specs.Own.{point_if, drawn_there, number_given, start_given, end_given, own_drawn}
 use Rattle.oas_judge.specs.declared.candidates.Candidate.TheVariants as candidates
 use Rattle.oas_judge.specs.declared.judge.FileJudge.{FileJudge}
@@ -150,7 +150,7 @@ figure_is _ e figure is = absurd figure
 -- ---- a judge that holds
 
 pub figure_drawn : (j : FileJudge) (form : FormJudge) (ahead : PeekedFigure) (e : Element) (all : List ℕ) → IsTrue (holds j) → IsPeekedFigure all ahead → IsFigureBy j.profile ahead e
-    → ((bytes : List ℕ) → element_bytes e ≡ bytes → GoesOnDrawing j.form e bytes form) → GoesOnPeeked (take ahead.length all) j ahead.record (record j { form = form })
+    → ((bytes : List ℕ) → element_bytes e ≡ bytes → GoesOnDrawing j.form e bytes form) → GoesOnTaking (take ahead.length all) j ahead.record (record j { form = form })
 figure_drawn j form ahead e all told is by step = record {
   candidate = candidates.Element e;
   says = λ told. record { element = e; drawn = by.drawn; form = by.kept; fit = by.fit };

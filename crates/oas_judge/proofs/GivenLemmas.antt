@@ -1,6 +1,6 @@
 -- What was read from what was kept and then from the source was read from that source; and a file that is canonical.
-use Rattle.std.proofs.Common.{◌≡◌, ℕ, ◌-◌, ◌<◌, ◌≤◌, Bool, true, false, IsTrue, List, [], ◌++◌, length, drop, Option, Some, None, Result, Ok, Err, refl, sym, ap, subst, ◌∙◌, arith}
-use Rattle.std.specs.Prelude.{if◌then◌else◌}
+use Rattle.std.proofs.Common.{◌≡◌, ℕ, ◌-◌, ◌<◌, ◌≤◌, Bool, true, false, IsTrue, List, [], ◌++◌, length, drop, Option, Some, None, IfSome, Result, Ok, Err, refl, sym, ap, subst, ◌∙◌, arith}
+use Rattle.std.specs.Prelude.{if◌then◌else◌, unwrap_or}
 use Rattle.std.proofs.lemmas.List.{take_all}
 use Rattle.std.proofs.Math.ListN.{drop_of_length-le}
 use Rattle.std.proofs.Math.Seq.{drop-append_seam}
@@ -20,14 +20,15 @@ use Rattle.oas_writing.specs.Stores.{Store}
 use Rattle.oas_writing.specs.Stands.{ReaderState, end_refusal}
 use Rattle.oas_writing.specs.Judging.{entry_records}
 use Rattle.oas_writing.proofs.Refusing.{ForMemory, judged_refused, memory_placed}
-use Rattle.oas_writing.specs.Bytes.{head_bytes}
 use Rattle.oas_judge.specs.declared.judge.FileJudge.{FileJudge}
-use Rattle.oas_judge.specs.FileJudges.{holds, IsJudging}
+use Rattle.oas_judge.specs.FileJudges.{Decides}
 use Rattle.oas_judge.specs.Given.{IsGiven}
-use Rattle.oas_judge.specs.Judged.{IsJudged}
-use Rattle.oas_judge.specs.Parts.{MayWant, EndsRight}
+use Rattle.oas_judge.specs.Judged.{HasBegun, HasSeenAll}
+use Rattle.oas_judge.specs.declared.parts.Part.{Part}
+use Rattle.oas_judge.specs.declared.parts.Part.TheVariants.{Judged, Unjudged, End}
+use Rattle.oas_judge.specs.Parts.{MayWant, StopsAt}
 use Rattle.oas_judge.specs.Sources.{IsJoined, joined_script, limit_with, with_left}
-use Rattle.oas_judge.proofs.FileLemmas.{both_hold, judged}
+use Rattle.oas_judge.proofs.FileLemmas.{judged}
 use Rattle.oas_judge.proofs.JoinedLemmas.{before}
 
 -- ---- what the joined source says is so of the source
@@ -126,18 +127,23 @@ wants_again {limits = limits} {at = at} kept may first takes = (
 
 -- ---- a canonical file
 
--- a head has some bytes
-pub front_some : {profile : Profile} {j : FileJudge} {head : Head} → IsJudging profile j head [] [] → IsTrue (holds j) → ⊥
-unfolding head_bytes
-front_some {j = j} judging told = let is = (judging.begins.0 (both_hold j.begins j.form.holds told).0).bytes in cc
+-- what was taken last is a record
+pub stopped_before : {C : Type 0} {t : Store C} {profile : Profile} {head : Head} {now : Script} {first : ReaderState C} {j : FileJudge} (b : HasBegun t profile head now first j) (new : Script) (s : ReaderState C)
+    (k : FileJudge) (part : Part) (at : ℕ) → ((known : Option Bool) → part ≡ End known → ⊥) → StopsAt t profile head first b part at new s k → MayWant first.limits b.origin at new
+stopped_before b new s k Judged at before may = may
+stopped_before b new s k Unjudged at before may = may
+stopped_before b new s k (End known) at before all = absurd (before known refl)
 
-pub given_form : {C : Type 0} {t : Store C} {limits : Limits} {profile : Profile} {head : Head} {origin mid new : Script} {first s : ReaderState C} {at : ℕ} → EndsRight t profile head origin first at mid s
-    → first.limits ≡ limits → ((e : EndsRight t profile head origin first at mid s) → end_refusal s.limits (entry_records e.all.entries) ≡ None) → Consumed mid [] new → IsAtEnd new
-    → (bytes : List ℕ) × IsGiven limits profile origin bytes new
-given_form {limits = limits} {profile = profile} {origin = origin} {new = new} e within whole takes ended =
-    let is : IsJudged limits profile origin true new =
-    subst (λ (o : Script). IsJudged limits profile o true new) e.same (judged e.begun e.all within (whole e) takes ended true (λ _. (e.holding, refl), λ _. refl)) in
-    (is.bytes, record { takes = is.takes; ended = is.ended; form = is.answer.0 refl })
+-- an answer that is known to be yes
+pub known_yes : (P : Bool → Type 0) (known : Option Bool) → IsTrue (unwrap_or known false) → IfSome known P → P true
+known_yes P None told is = absurd cc
+known_yes P (Some true) told is = is
+known_yes P (Some false) told is = absurd cc
+
+pub given_form : {C : Type 0} {t : Store C} {limits : Limits} {profile : Profile} {head : Head} {now mid new : Script} {first s : ReaderState C} {j k : FileJudge} {at : ℕ}
+    (b : HasBegun t profile head now first j) (m : HasSeenAll t profile head b.begun.start b.origin first at mid s k) → Decides k m.last true → first.limits ≡ limits
+    → end_refusal s.limits (entry_records m.entries) ≡ None → Consumed mid [] new → IsAtEnd new → (bytes : List ℕ) × IsGiven limits profile b.origin bytes new
+given_form b m decides within whole takes ended = let is = judged b m within whole takes ended true decides in (is.bytes, record { takes = is.takes; ended = is.ended; form = is.answer.0 refl })
 
 -- what was kept is that
 pub given_kept : {limits : Limits} {profile : Profile} {old new : Script} (kept : List ℕ) → ((bytes : List ℕ) × IsGiven limits profile old bytes new) → Consumed old kept new → IsGiven limits profile old kept new

@@ -1,6 +1,6 @@
 -- How a judge of a file goes on with one entry.
-use Rattle.std.proofs.Common.{◌≡◌, ℕ, Bool, true, false, IsTrue, List, [], ◌∷◌, ◌++◌, reverse, refl, sym, subst, ◌∙◌, true≢false}
-use Rattle.std.specs.Prelude.{◌&&◌, take}
+use Rattle.std.proofs.Common.{◌≡◌, ◌↔◌, ℕ, Bool, true, false, IsTrue, Option, None, Some, IfSome, List, [], ◌∷◌, ◌++◌, reverse, refl, sym, subst, ◌∙◌, true≢false}
+use Rattle.std.specs.Prelude.{◌&&◌, take, unwrap_or}
 use Rattle.std.specs.List.{AllByRecursion}
 use Rattle.oas_record.specs.declared.heads.Head.{Head}
 use Rattle.oas_record.specs.declared.records.Record.{Record}
@@ -35,7 +35,7 @@ use Rattle.oas_writing.proofs.JudgeBytes.{bytes_go_on}
 use Rattle.oas_judge.specs.declared.candidates.Candidate.{Candidate}
 use Rattle.oas_judge.specs.declared.candidates.Candidate.TheVariants as candidates
 use Rattle.oas_judge.specs.declared.judge.FileJudge.{FileJudge}
-use Rattle.oas_judge.specs.FileJudges.{holds, IsJudging, AreEntries, GoesOnBy, GoesOnPeeked}
+use Rattle.oas_judge.specs.FileJudges.{holds, IsJudging, AreEntries, GoesOn, GoesOnTaking}
 use Rattle.oas_judge.proofs.OwnLemmas.{own_draws}
 use Rattle.oas_judge.proofs.RightRecords.{RightCell, RightElement, read_front, absolute_so_far, right_next}
 
@@ -45,9 +45,14 @@ second_fails : (a b : Bool) → (a && b) ≡ false → IsTrue a → b ≡ false
 second_fails true b h t = h
 second_fails false b h t = cc
 
-both_hold : (a b : Bool) → IsTrue (a && b) → IsTrue a × IsTrue b
+pub both_hold : (a b : Bool) → IsTrue (a && b) → IsTrue a × IsTrue b
 both_hold true b h = (refl, h)
 both_hold false b h = absurd cc
+
+-- the head of a file that holds
+pub is_front : (begins : Option Bool) {F : Type 0} → IfSome begins (λ yes. IsTrue yes ↔ F) → IsTrue (unwrap_or begins false) → F
+is_front None is told = absurd cc
+is_front (Some answer) is told = is.0 told
 
 -- fails from then on
 stays_failed : (profile : Profile) (j : FormJudge) (entries : List Entry) (x : Entry) → j.holds ≡ false → Stands profile j entries → Stands profile j (entries ++ x ∷ [])
@@ -60,11 +65,11 @@ stays_failed profile j entries x failed s = record {
   element_is = λ t. absurd (true≢false (sym t ∙ failed));
 }
 
-pub goes_on_failed : (known : List ℕ) (j : FileJudge) (candidate : Candidate) → holds j ≡ false → GoesOnBy known j candidate j
+pub goes_on_failed : (known : List ℕ) (j : FileJudge) (candidate : Candidate) → holds j ≡ false → GoesOn known j candidate j
 goes_on_failed known j candidate failed limits profile head start entries r bytes read says tied judging = record {
   by = judging.by;
   begins = judging.begins;
-  stands = λ b. stays_failed profile j.form entries (r, bytes) (second_fails j.begins j.form.holds failed b) (judging.stands b);
+  stands = λ b. stays_failed profile j.form entries (r, bytes) (second_fails (unwrap_or j.begins false) j.form.holds failed b) (judging.stands b);
 }
 
 -- ---- a judge that holds
@@ -74,7 +79,7 @@ are_read : (limits : Limits) (head : Head) (entries : List Entry) → head.flag_
 are_read limits head entries flag read = record { each = subst (λ (in_end : Bool). AllByRecursion (λ e. inner_in in_end e.0 e.1) entries) flag read.each; allowed = read.allowed }
 
 module _ (known : List ℕ) (j : FileJudge) (form : FormJudge) (told : IsTrue (holds j)) where
-  pub goes_on_opened : (name : List ℕ) → FormGoesOn j.form (record_of.Cell (ByName name), known) form → GoesOnBy known j (candidates.Cell name) (record j { form = form })
+  pub goes_on_opened : (name : List ℕ) → FormGoesOn j.form (record_of.Cell (ByName name), known) form → GoesOn known j (candidates.Cell name) (record j { form = form })
   goes_on_opened name step limits profile head start entries r bytes read says tied judging = record {
     by = judging.by;
     begins = judging.begins;
@@ -86,13 +91,13 @@ module _ (known : List ℕ) (j : FileJudge) (form : FormJudge) (told : IsTrue (h
       (IsTrue (holds j) → known ≡ bytes) → IsJudging profile j head start entries → AreRead limits (entries ++ (r, known) ∷ [])
   kept_read limits profile head start entries r bytes read tied judging =
       subst (λ (b : List ℕ). AreRead limits (entries ++ (r, b) ∷ [])) (sym (tied told))
-      (are_read limits head (entries ++ (r, bytes) ∷ []) (judging.begins.0 (both_hold j.begins j.form.holds told).0).flag read)
+      (are_read limits head (entries ++ (r, bytes) ∷ []) (is_front j.begins judging.begins (both_hold (unwrap_or j.begins false) j.form.holds told).0).flag read)
 
   -- all before it match
   matched : (profile : Profile) (head : Head) (start : List ℕ) (entries : List Entry) → IsJudging profile j head start entries → AllMatch profile [] entries
-  matched profile head start entries judging = let both = both_hold j.begins j.form.holds told in (judging.stands both.0).holds_is.0 both.1
+  matched profile head start entries judging = let both = both_hold (unwrap_or j.begins false) j.form.holds told in (judging.stands both.0).holds_is.0 both.1
 
-  pub goes_on_drawn : (kept : Element) → GoesOnDrawing j.form kept known form → GoesOnBy known j (candidates.Element kept) (record j { form = form })
+  pub goes_on_drawn : (kept : Element) → GoesOnDrawing j.form kept known form → GoesOn known j (candidates.Element kept) (record j { form = form })
   goes_on_drawn kept step limits profile head start entries r bytes read says tied judging =
       let g = says told in
       let all = kept_read limits profile head start entries r bytes read tied judging in
@@ -104,7 +109,7 @@ module _ (known : List ℕ) (j : FileJudge) (form : FormJudge) (told : IsTrue (h
         stands = λ b. subst (λ (c : List ℕ). Stands profile form (entries ++ (r, c) ∷ [])) (tied told) (step limits profile entries r g.element all one g.form (judging.stands b));
       }
 
-  pub goes_on_refused : GoesOnRefusing j.form form → GoesOnBy known j candidates.Other (record j { form = form })
+  pub goes_on_refused : GoesOnRefusing j.form form → GoesOn known j candidates.Other (record j { form = form })
   goes_on_refused step limits profile head start entries r bytes read says tied judging =
       let nowhere = says told in
       let all = kept_read limits profile head start entries r bytes read tied judging in
@@ -142,12 +147,12 @@ bytes_so e r bytes is fit fits spelled =
     sym ((element_is_bytes e bytes sound fit.light).0 there)
 
 -- a judge that has failed
-pub peeked_failed : (known : List ℕ) (j : FileJudge) (r : Record) → holds j ≡ false → GoesOnPeeked known j r j
+pub peeked_failed : (known : List ℕ) (j : FileJudge) (r : Record) → holds j ≡ false → GoesOnTaking known j r j
 peeked_failed known j r failed = record { candidate = candidates.Other; says = λ told. absurd (true≢false (sym told ∙ failed)); goes_on = goes_on_failed known j candidates.Other failed }
 
 -- one that holds
 pub peeked_drawn : (j : FileJudge) (form : FormJudge) (ahead : PeekedRectangle) (e : Element) (all : List ℕ) → IsTrue (holds j) → IsPeeked all ahead → IsSpelledBy ahead e
-    → ((bytes : List ℕ) → element_bytes e ≡ bytes → GoesOnDrawing j.form e bytes form) → GoesOnPeeked (take ahead.length all) j (record_of.Rectangle ahead.rectangle) (record j { form = form })
+    → ((bytes : List ℕ) → element_bytes e ≡ bytes → GoesOnDrawing j.form e bytes form) → GoesOnTaking (take ahead.length all) j (record_of.Rectangle ahead.rectangle) (record j { form = form })
 peeked_drawn j form ahead e all told is spelled step = record {
   candidate = candidates.Element e;
   says = λ told. record { element = e; drawn = spelled.drawn; form = kept_so e ahead.rectangle spelled.is j.profile; fit = spelled.fit };
@@ -158,7 +163,7 @@ peeked_drawn j form ahead e all told is spelled step = record {
 -- for a placement or a text
 pub named_drawn : (j : FileJudge) (form : FormJudge) (ahead : PeekedNamed) (e : Element) (all : List ℕ) → IsTrue (holds j) → IsPeekedNamed all ahead → IsTrue ahead.shortest
     → IsNamedBy ahead.element e → ((bytes : List ℕ) → element_bytes e ≡ bytes → GoesOnDrawing j.form e bytes form)
-    → GoesOnPeeked (take ahead.length all) j (named_record ahead.element) (record j { form = form })
+    → GoesOnTaking (take ahead.length all) j (named_record ahead.element) (record j { form = form })
 named_drawn j form ahead e all told is short named step = record {
   candidate = candidates.Element e;
   says = λ told. record { element = e; drawn = named.drawn; form = named_so e ahead.element named.is j.profile; fit = named.fit };

@@ -11,5 +11,4 @@ mod FileLemmas
 pub mod NamedSteps
 mod FigureSteps
 mod JoinedLemmas
-mod PartSteps
 mod GivenLemmas

@@ -1,8 +1,6 @@
--- What judging the records of a file does, and judging a file.
-use Rattle.std.specs.Prelude.{◌≡◌, ◌↔◌, ℕ, ◌+◌, ◌<◌, Bool, true, false, IsTrue, List, [], ◌++◌, length, Result, Ok, Err}
+-- A file whose records are judged, as far as they were taken; and judging a whole file.
+use Rattle.std.specs.Prelude.{◌≡◌, ◌↔◌, ℕ, ◌+◌, Bool, IsTrue, List, [], ◌++◌, length}
 use Rattle.std.specs.List.{AllByRecursion}
-use Rattle.oas_num.specs.declared.refusals.Why.TheVariants.{Memory}
-use Rattle.oas_num.specs.declared.refusals.Refusal.{Refusal}
 use Rattle.oas_num.specs.Script.{Script, Consumed, IsAtEnd}
 use Rattle.oas_num.specs.Style.{Any}
 use Rattle.oas_record.specs.declared.heads.Head.{Head}
@@ -15,14 +13,13 @@ use Rattle.oas_writing.specs.Stores.{Store}
 use Rattle.oas_writing.specs.Stands.{ReaderState, Represents}
 use Rattle.oas_writing.specs.Acceptance.{Accepted}
 use Rattle.oas_writing.specs.Gathering.{inner_in, HasTaken}
-use Rattle.oas_writing.specs.Reading.{IsRead, Refuses}
+use Rattle.oas_writing.specs.Reading.{IsRead}
 use Rattle.oas_writing.specs.Canonical.{CanonicalForm}
 use Rattle.oas_writing.specs.Judging.{Entry, entry_records, entry_bytes}
 use Rattle.oas_judge.specs.declared.judge.FileJudge.{FileJudge}
-use Rattle.oas_judge.specs.FileJudges.{holds, IsJudging, BeginsJudging}
-use Rattle.oas_judge.specs.Kept.{RefusesKept}
+use Rattle.oas_judge.specs.FileJudges.{IsJudging, BeginsJudging}
 
--- ---- all records
+-- ---- what was taken
 
 module _ {C : Type 0} where
   -- the head of a file that was judged, and a reader with no records
@@ -39,8 +36,8 @@ module _ {C : Type 0} where
     pub taken : HasTaken t first s (entry_records entries)
     pub judging : IsJudging profile j head start entries
 
-  -- the head, all entries and END were taken; END begins at that offset, and where the judge holds its bytes are known
-  pub record HasSeenAll (t : Store C) (profile : Profile) (head : Head) (start : List ℕ) (origin : Script) (first : ReaderState C) (at : ℕ) (now : Script) (s : ReaderState C) (j : FileJudge) (known : List ℕ) : Type 0 where
+  -- the head, all entries and END were taken; END begins at that offset
+  pub record HasSeenAll (t : Store C) (profile : Profile) (head : Head) (start : List ℕ) (origin : Script) (first : ReaderState C) (at : ℕ) (now : Script) (s : ReaderState C) (j : FileJudge) : Type 0 where
     pub entries : List Entry
     pub last : List ℕ
     pub takes : Consumed origin ((start ++ entry_bytes entries) ++ last) now
@@ -49,46 +46,6 @@ module _ {C : Type 0} where
     pub place : at ≡ origin.given + length (start ++ entry_bytes entries)
     pub taken : HasTaken t first s (entry_records entries)
     pub judging : IsJudging profile j head start entries
-    pub tied : IsTrue (holds j) → known ≡ last
-
-  abbrev pub JudgesRecords : Store C → Head → Script → ReaderState C → FileJudge → Result ℕ Refusal → Script → ReaderState C → FileJudge → Type 0
-  JudgesRecords t head old first j (Ok at) new s k = (profile : Profile) (b : HasBegun t profile head old first j) → HasSeenAll t profile head b.begun.start b.origin first at new s k k.bytes.items
-  JudgesRecords t head old first j (Err refusal) new s k = (profile : Profile) (b : HasBegun t profile head old first j) → RefusesKept first.limits b.origin refusal new
-
--- ---- one record
-
-module _ {C : Type 0} where
-  -- in a read that has seen some entries it is one more entry; memory may have run out for it
-  abbrev pub SeesMore : Store C → Head → Script → ReaderState C → FileJudge → Script → ReaderState C → FileJudge → Type 0
-  SeesMore t head old s j new s' j' = (profile : Profile) (now : Script) (first : ReaderState C) (judge : FileJudge) (b : HasBegun t profile head now first judge)
-      → HasSeen t profile head b.begun.start b.origin first old s j → HasSeen t profile head b.begun.start b.origin first new s' j' × Refuses first.limits b.origin (record { at = old.given; why = Memory }) new
-
-  -- it is END
-  abbrev pub SeesEnd : Store C → Head → Script → ReaderState C → FileJudge → Script → ReaderState C → FileJudge → Type 0
-  SeesEnd t head old s j new s' j' = (profile : Profile) (now : Script) (first : ReaderState C) (judge : FileJudge) (b : HasBegun t profile head now first judge)
-      → HasSeen t profile head b.begun.start b.origin first old s j → HasSeenAll t profile head b.begun.start b.origin first old.given new s' j' j'.bytes.items
-
-  -- it is refused
-  abbrev pub SeesRefused : Store C → Head → Script → ReaderState C → FileJudge → Refusal → Script → Type 0
-  SeesRefused t head old s j refusal new = (profile : Profile) (now : Script) (first : ReaderState C) (judge : FileJudge) (b : HasBegun t profile head now first judge)
-      → HasSeen t profile head b.begun.start b.origin first old s j → RefusesKept first.limits b.origin refusal new
-
-  -- it is refused, and not for lack of memory for its bytes
-  abbrev pub SeesRefusedSo : Store C → Head → Script → ReaderState C → FileJudge → Refusal → Script → Type 0
-  SeesRefusedSo t head old s j refusal new = (profile : Profile) (now : Script) (first : ReaderState C) (judge : FileJudge) (b : HasBegun t profile head now first judge)
-      → HasSeen t profile head b.begun.start b.origin first old s j → Refuses first.limits b.origin refusal new
-
-  -- the next record was seen, or END was
-  abbrev pub JudgesOne : Store C → Head → Script → ReaderState C → FileJudge → Result Bool Refusal → Script → ReaderState C → FileJudge → Type 0
-  JudgesOne t head old s j (Ok true) new s' j' = (old.given < new.given) × SeesMore t head old s j new s' j'
-  JudgesOne t head old s j (Ok false) new s' j' = SeesEnd t head old s j new s' j'
-  JudgesOne t head old s j (Err refusal) new s' j' = SeesRefused t head old s j refusal new
-
-  -- the next record was seen, which is at hand, or nothing was done
-  abbrev pub JudgesPeeked : Store C → Head → Script → ReaderState C → FileJudge → Result Bool Refusal → Script → ReaderState C → FileJudge → Type 0
-  JudgesPeeked t head old s j (Ok true) new s' j' = (old.given < new.given) × SeesMore t head old s j new s' j'
-  JudgesPeeked t head old s j (Ok false) new s' j' = (new ≡ old) × (s' ≡ s) × (j' ≡ j)
-  JudgesPeeked t head old s j (Err refusal) new s' j' = SeesRefusedSo t head old s j refusal new
 
 -- ---- a file
 

@@ -14,7 +14,6 @@ pub use Rattle.oas_writing.specs.Putting
 pub use Rattle.oas_writing.specs.Reading
 pub mod Own
 pub mod Kept
-pub mod Spelled
 pub mod Candidates
 pub mod FileJudges
 pub mod Judged

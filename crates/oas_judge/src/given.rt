@@ -1,15 +1,13 @@
 //! A file by its bytes where these are canonical, and by its layout otherwise.
-ghost use Rattle.std.specs.Prelude.{◌≡◌, [], IsTrue, IsSomeAnd};
-ghost use Rattle.oas_judge.specs.FileJudges.{holds, IsJudging};
+ghost use Rattle.std.specs.Prelude.{◌≡◌};
 ghost use Rattle.oas_judge.specs.Given.{ReadsGiven, Judges};
 
 use crate::joined::read_joined;
 use crate::judge::FileJudge;
-use crate::kept::{KeptSource, Start};
-use crate::parts::{Part, keep_parts};
+use crate::kept::KeptSource;
+use crate::parts::{Part, Until, judge_parts};
 use oas_elements::{Limits, Profile};
-use oas_num::{Refusal, Source, Why};
-use oas_record::{Head, read_head};
+use oas_num::{Refusal, Source, Start, Why};
 use oas_writing::{CountedCell, Layout, Reader, find_end_of_input};
 use std::alloc::Global;
 use std::marker::Brand;
@@ -32,32 +30,19 @@ struct Verdict {
     at: u64,
 }
 
-/// The judge of a file that begins with these bytes. Where they aren't kept it doesn't hold, since no head has no bytes.
-fn judge_behind(alloc: Global, profile: Profile, head: &Head, start: Option<&[u8]>) -> FileJudge
-    ensures { IsTrue (holds result) → IsSomeAnd start.entry (λ bytes. IsJudging profile result head.now bytes.now []) }
-{
-    match start {
-        Some(bytes) => FileJudge::of_front(alloc, profile, head, bytes),
-        None => FileJudge::of_front(alloc, profile, head, &[]),
-    }
-}
-
 /// Accepts and judges a file up to its end, or up to a record at which it isn't known to be canonical.
-fn judge_kept<S: Source, K: Start>(
+fn judge_front<S: Source>(
     alloc: Global,
-    source: &mut KeptSource<'_, S, K>,
+    source: &mut S,
     limits: Limits,
     profile: Profile,
 ) -> Result<Verdict, Refusal>
-    requires { S.script source.old.source.now ≡ K.script }
-    ensures { Judges limits profile K.script result (S.script source.new.source.now) }
+    ensures { Judges limits profile (S.script source.old) result (S.script source.new) }
 {
-    let first = source.at();
-    let head = read_head(alloc, source)?;
-    let mut judge = judge_behind(alloc, profile, &head, source.since(first));
+    let (head, mut judge) = FileJudge::begin(alloc, source, profile)?;
     let mut reader: Reader<CountedCell> = Reader::new(alloc, head.unit, limits, profile);
-    let (part, at) = keep_parts(alloc, source, head, &mut reader, &mut judge)?;
-    let Part::End(canonical) = part else {
+    let (part, at) = judge_parts(alloc, source, head, &mut reader, &mut judge, Until::Other)?;
+    let Part::End(known) = part else {
         return Ok(Verdict {
             canonical: false,
             at,
@@ -65,6 +50,7 @@ fn judge_kept<S: Source, K: Start>(
     };
     find_end_of_input(source)?;
     reader.finish_counting(at)?;
+    let canonical = known.unwrap_or(false);
     Ok(Verdict { canonical, at })
 }
 
@@ -81,7 +67,7 @@ fn read_given_named<'a, S: Source, K: Start>(
     ensures read { ReadsGiven limits profile K.script result.0 (S.script result.1.now) }
 {
     let mut keeping: KeptSource<'a, S, K> = KeptSource::new(Vec::new(alloc), source);
-    let judged = judge_kept(alloc, &mut keeping, limits, profile);
+    let judged = judge_front(alloc, &mut keeping, limits, profile);
     let (source, kept) = keeping.finish();
     let verdict = match judged {
         Ok(verdict) => verdict,

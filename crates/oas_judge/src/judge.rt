@@ -1,44 +1,38 @@
 //! The judge of a file, which sees it part by part.
-ghost use Rattle.std.specs.Prelude.{◌≡◌, ◌↔◌, IsTrue, true, false, take, [], ℕ, List, IfSome, OnOk, IfOk, IfErr};
-ghost use Rattle.oas_num.specs.declared.refusals.Why.TheVariants.{Memory as NoMemory};
+ghost use Rattle.std.specs.Prelude.{◌≡◌, ◌↔◌, IsTrue, true, false, take, ℕ, List, is_some, IfSome, IfOk, IfErr};
 ghost use Rattle.oas_elements.specs.declared.limits.Limits.{Limits};
-ghost use Rattle.oas_writing.specs.Bytes.{end_bytes};
+ghost use Rattle.oas_writing.specs.Reading.{Refuses};
 ghost use Rattle.oas_judge.specs.Candidates.{IsCandidate, IsFitting};
-ghost use Rattle.oas_judge.specs.FileJudges.{holds, BeginsJudging, GoesOn, GoesOnBy, IsFront, IsJudging, GoesOnPeeked};
+ghost use Rattle.oas_judge.specs.FileJudges.{holds, BeginsJudging, GoesOn, IsFront, GoesOnTaking, Decides};
 ghost use Rattle.oas_judge.specs.declared.judge.FileJudge.{FileJudge as TheJudge};
 ghost use Rattle.oas_judge.specs.Peeked.{IsSpelledBy};
 ghost use Rattle.oas_peek.specs.Peeked.{IsPeeked};
 ghost use Rattle.oas_peek.specs.Named.{IsPeekedNamed, HasValidName, named_record};
 ghost use Rattle.oas_peek.specs.Figures.{IsPeekedFigure};
 ghost use Rattle.oas_record.specs.declared.records.Record.TheVariants.{Rectangle as OneRectangle};
-ghost use Rattle.oas_judge.specs.Kept.{RefusesKept, RefusesNext};
-ghost use Rattle.oas_judge.specs.Spelled.{NextTaken};
 
 use crate::candidates::{Candidate, candidate_of, is_drawable};
 use crate::figures::spelled_figure;
+use crate::kept::KeptSource;
 use crate::named::draw_named;
 use crate::own::own_rectangle;
-use crate::spelled::{read_head_spelled, take_record_spelled};
 use oas_elements::{Element, Profile};
-use oas_num::{Fraction, Refusal, Source, Why};
+use oas_num::{Fraction, Refusal, Source, Start};
 use oas_peek::{PeekedFigure, PeekedNamed, PeekedRectangle};
-use oas_record::{Head, Record};
-use oas_writing::{FormJudge, is_end, is_head, take_record};
+use oas_record::{Head, Record, read_head};
+use oas_writing::{FormJudge, is_end, is_head};
 use std::alloc::Global;
-use std::mem;
+use std::marker::Brand;
 
 /// Judges whether a file is canonical by a profile, part by part as these are read.
 ///
-/// It keeps the name of the open cell and the latest element in it, and the bytes of one part at a time. Once a part isn't as
-/// in a canonical file it keeps no more bytes.
+/// It keeps the name of the open cell and the latest element in it.
 #[derive(Drop)]
 pub(crate) struct FileJudge {
     profile: Profile,
-    /// Whether the head of the file is as in a canonical one.
-    begins: bool,
+    /// Whether the head of the file is as in a canonical one; None if there was no memory for its bytes.
+    begins: Option<bool>,
     form: FormJudge,
-    /// The bytes of the latest part.
-    bytes: Vec<u8>,
 }
 
 /// Whether these are the canonical bytes of the head of a file.
@@ -46,6 +40,16 @@ fn is_front(unit: Fraction, flag_in_end: bool, bytes: &[u8]) -> bool
     ensures { IsTrue result ↔ IsFront (record { unit = unit; flag_in_end = flag_in_end }) bytes.now }
 {
     !flag_in_end && is_head(unit, bytes)
+}
+
+/// The same for the bytes that were kept of the head; None if there was no memory for them.
+fn begins_so(head: &Head, kept: Option<Vec<u8>>) -> Option<bool>
+    ensures { (bytes : List ℕ) → IfSome kept (λ start. start.items ≡ bytes) → IfSome result (λ yes. IsTrue yes ↔ IsFront head.now bytes) }
+{
+    match kept {
+        Some(start) => Some(is_front(head.unit, head.flag_in_end, &start)),
+        None => None,
+    }
 }
 
 /// The element of a rectangle that is at hand, where its bytes are the canonical ones of that.
@@ -63,7 +67,7 @@ fn spelled_element(ahead: &PeekedRectangle) -> Option<Element>
 /// Judges a record by what it may be in a canonical file and by its bytes, where all before it were as in one.
 fn judge_form(form: &mut FormJudge, candidate: Candidate, bytes: &[u8])
     requires { IsFitting candidate }
-    ensures { (j : TheJudge) → j.form ≡ form.old → IsTrue (holds j) → GoesOnBy bytes.now j candidate (record j { form = form.new }) }
+    ensures { (j : TheJudge) → j.form ≡ form.old → IsTrue (holds j) → GoesOn bytes.now j candidate (record j { form = form.new }) }
 {
     match candidate {
         Candidate::Cell(name) => form.open(name, bytes),
@@ -80,80 +84,82 @@ impl FileJudge {
         profile: Profile,
     ) -> Result<(Head, FileJudge), Refusal>
         ensures begun { IfOk result (λ begun. BeginsJudging profile (S.script source.old) begun.0 begun.1 (S.script source.new)) }
-        ensures refused { IfErr result (λ refusal. (limits : Limits) → RefusesKept limits (S.script source.old) refusal (S.script source.new)) }
+        ensures refused { IfErr result (λ refusal. (limits : Limits) → Refuses limits (S.script source.old) refusal (S.script source.new)) }
     {
-        let (head, bytes) = read_head_spelled(alloc, source, Vec::new(alloc))?;
-        let judge = FileJudge::of_front(alloc, profile, &head, &bytes);
-        Ok((head, judge))
+        let (begun, _source) = FileJudge::begin_named::<S, Brand>(alloc, source, profile);
+        begun
     }
 
-    /// The judge of a file that begins with these bytes.
-    pub(crate) fn of_front(alloc: Global, profile: Profile, head: &Head, bytes: &[u8]) -> FileJudge
-        ensures { IsJudging profile result head.now bytes.now [] }
+    /// The same, for the source that is named. It hands the borrow back, so that its lender knows it as its own.
+    fn begin_named<'a, S: Source, K: Start>(
+        alloc: Global,
+        source: &'a mut S,
+        profile: Profile,
+    ) -> (Result<(Head, FileJudge), Refusal>, &'a mut S)
+        requires named { source.ghost_name ≡ K.name }
+        requires starts { S.script source.old ≡ K.script }
+        ensures same { result.1.ghost_name ≡ source.entry.ghost_name }
+        ensures begun { IfOk result.0 (λ begun. BeginsJudging profile (S.script source.old) begun.0 begun.1 (S.script result.1.now)) }
+        ensures refused { IfErr result.0 (λ refusal. (limits : Limits) → Refuses limits (S.script source.old) refusal (S.script result.1.now)) }
     {
-        FileJudge {
+        let mut keeping: KeptSource<'a, S, K> = KeptSource::new(Vec::new(alloc), source);
+        let outcome = read_head(alloc, &mut keeping);
+        let (source, kept) = keeping.finish();
+        let head = match outcome {
+            Ok(head) => head,
+            Err(refusal) => return (Err(refusal), source),
+        };
+        let judge = FileJudge {
             profile,
-            begins: is_front(head.unit, head.flag_in_end, bytes),
+            begins: begins_so(&head, kept),
             form: FormJudge::new(),
-            bytes: Vec::new(alloc),
-        }
+        };
+        (Ok((head, judge)), source)
+    }
+
+    /// Whether there was memory for the bytes of the head.
+    pub(crate) fn has_begun(&self) -> bool
+        ensures { result ≡ is_some self.now.begins }
+    {
+        self.begins.is_some()
     }
 
     /// Whether all parts so far were as in a canonical file.
     pub(crate) fn holds(&self) -> bool
         ensures { result ≡ holds self.now }
     {
-        self.begins && self.form.holds()
+        self.begins.unwrap_or(false) && self.form.holds()
     }
 
-    /// Takes the next record, or END, with its bytes as long as they are judged.
-    pub(crate) fn next<S: Source>(
-        &mut self,
-        alloc: Global,
-        source: &mut S,
-        flag_in_end: bool,
-    ) -> Result<Option<Record>, Refusal>
-        ensures taken { IfOk result (λ next. NextTaken (holds self.old) flag_in_end (S.script source.old) next self.new.bytes.items (S.script source.new)) }
-        ensures same { OnOk result (self.new ≡ record self.old { bytes = self.new.bytes }) }
-        ensures refused { IfErr result (λ refusal. RefusesNext flag_in_end (S.script source.old) refusal (S.script source.new)) }
+    /// Whether the file is canonical, where END was taken, with these bytes; None where it isn't known.
+    pub(crate) fn end(&self, last: Option<&[u8]>) -> Option<bool>
+        ensures { (bytes : List ℕ) → IfSome last.entry (λ known. known.now ≡ bytes) → IfSome result (Decides self.now bytes) }
     {
-        if !self.holds() {
-            return take_record(alloc, source, flag_in_end);
+        if self.begins.is_none() {
+            return None;
         }
-        let room = mem::replace(&mut self.bytes, Vec::new(alloc));
-        let (next, bytes) = take_record_spelled(alloc, source, flag_in_end, room)?;
-        self.bytes = bytes;
-        Ok(next)
+        if !self.holds() {
+            return Some(false);
+        }
+        Some(is_end(last?))
     }
 
-    /// What a record that starts at byte `at` may be in a canonical file, where it is still judged.
-    pub(crate) fn candidate(
-        &self,
-        alloc: Global,
-        at: u64,
-        next: &Record,
-    ) -> Result<Candidate, Refusal>
-        ensures ok { IfOk result (λ candidate. IsTrue (holds self.now) → IsCandidate self.now.profile candidate next.now) }
-        ensures fit { IfOk result IsFitting }
-        ensures err { IfErr result (λ refusal. (refusal.at ≡ at) × (refusal.why ≡ NoMemory)) }
+    /// What a record may be in a canonical file, where it is still judged; None if out of memory.
+    pub(crate) fn candidate(&self, alloc: Global, next: &Record) -> Option<Candidate>
+        ensures some { IfSome result (λ candidate. IsTrue (holds self.now) → IsCandidate self.now.profile candidate next.now) }
+        ensures fit { IfSome result IsFitting }
     {
         if !self.holds() {
-            return Ok(Candidate::Other);
+            return Some(Candidate::Other);
         }
-        match candidate_of(alloc, self.profile, next) {
-            Ok(candidate) => Ok(candidate),
-            Err(_) => Err(Refusal {
-                at,
-                why: Why::Memory,
-            }),
-        }
+        candidate_of(alloc, self.profile, next).ok()
     }
 
     /// Judges a rectangle that is at hand, if it is accepted. It returns false, and does nothing, where it would have to
     /// compare the bytes with the canonical ones.
     pub(crate) fn judge_rectangle(&mut self, ahead: &PeekedRectangle) -> bool
         ensures no { result ≡ false → self.new ≡ self.old }
-        ensures yes { result ≡ true → (all : List ℕ) → IsPeeked all ahead.now → GoesOnPeeked (take ahead.now.length all) self.old (OneRectangle ahead.now.rectangle) self.new }
+        ensures yes { result ≡ true → (all : List ℕ) → IsPeeked all ahead.now → GoesOnTaking (take ahead.now.length all) self.old (OneRectangle ahead.now.rectangle) self.new }
     {
         if !self.holds() {
             return true;
@@ -170,7 +176,7 @@ impl FileJudge {
     pub(crate) fn judge_named(&mut self, ahead: &PeekedNamed<'_>) -> bool
         requires { HasValidName ahead.now.element }
         ensures no { result ≡ false → self.new ≡ self.old }
-        ensures yes { result ≡ true → (all : List ℕ) → IsPeekedNamed all ahead.now → GoesOnPeeked (take ahead.now.length all) self.old (named_record ahead.now.element) self.new }
+        ensures yes { result ≡ true → (all : List ℕ) → IsPeekedNamed all ahead.now → GoesOnTaking (take ahead.now.length all) self.old (named_record ahead.now.element) self.new }
     {
         if !self.holds() {
             return true;
@@ -182,7 +188,7 @@ impl FileJudge {
     /// to compare the bytes with the canonical ones, or if out of memory.
     pub(crate) fn judge_figure(&mut self, alloc: Global, ahead: &PeekedFigure) -> bool
         ensures no { result ≡ false → self.new ≡ self.old }
-        ensures yes { result ≡ true → (all : List ℕ) → IsPeekedFigure all ahead.now → GoesOnPeeked (take ahead.now.length all) self.old ahead.now.record self.new }
+        ensures yes { result ≡ true → (all : List ℕ) → IsPeekedFigure all ahead.now → GoesOnTaking (take ahead.now.length all) self.old ahead.now.record self.new }
     {
         if !self.holds() {
             return true;
@@ -194,30 +200,13 @@ impl FileJudge {
         true
     }
 
-    /// Judges the record that was taken last, which was accepted.
-    pub(crate) fn judge(&mut self, candidate: Candidate)
+    /// Judges a record with these bytes, if it is accepted.
+    pub(crate) fn judge(&mut self, candidate: Candidate, bytes: &[u8])
         requires { IsFitting candidate }
-        ensures { GoesOn self.old candidate self.new }
-    {
-        if self.holds() {
-            judge_form(&mut self.form, candidate, &self.bytes);
-        }
-    }
-
-    /// The same, where these are the record's bytes.
-    pub(crate) fn judge_by(&mut self, candidate: Candidate, bytes: &[u8])
-        requires { IsFitting candidate }
-        ensures { GoesOnBy bytes.now self.old candidate self.new }
+        ensures { GoesOn bytes.now self.old candidate self.new }
     {
         if self.holds() {
             judge_form(&mut self.form, candidate, bytes);
         }
-    }
-
-    /// Whether the file is canonical, once END was taken.
-    pub(crate) fn is_done(&self) -> bool
-        ensures { IsTrue result ↔ (IsTrue (holds self.now) × (end_bytes ≡ self.now.bytes.items)) }
-    {
-        self.holds() && is_end(&self.bytes)
     }
 }

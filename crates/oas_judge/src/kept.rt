@@ -3,27 +3,8 @@ ghost use Rattle.std.specs.Prelude.{◌≡◌, ◌≤◌, ◌++◌, ◌∷◌, [
 ghost use Rattle.oas_num.specs.Script.{Script, Consumed, since};
 ghost use Rattle.oas_judge.specs.Sources.{IsKept, IsKept-prop};
 
-use oas_num::{Source, SourceFault};
-use std::marker::{Brand, PhantomData};
-
-/// Which source's bytes are kept, and where it was before the first of them. Each use chooses it.
-pub trait Start {
-    ghost use Rattle.oas_num.specs.Script.{Script};
-    ghost use base.Fml.{GName};
-
-    ghost script: { Script };
-
-    ghost name: { GName };
-}
-
-impl Start for Brand {
-    ghost use Rattle.std.specs.Prelude.{[]};
-    ghost use Rattle.oas_num.specs.Script.{slice_script};
-
-    ghost script = { slice_script [] 0 0 };
-
-    ghost name = { 0 };
-}
+use oas_num::{Source, SourceFault, Start};
+use std::marker::PhantomData;
 
 /// The bytes of a borrowed source, which are kept as they are taken. It gives just what that source gives: where there is no
 /// memory to keep them it keeps none any more.

@@ -3,8 +3,8 @@
 //! What this crate promises to the crates above it:
 //!
 //! - [`is_canonical`] returns whether an accepted file is a canonical form by the profile that it is handed, whatever the
-//!   source (`IsJudged`, specs/Judged.antt). It builds no layout, and keeps names, numbers and counts, and one record at a
-//!   time.
+//!   source (`IsJudged`, specs/Judged.antt). It builds no layout, and keeps names, numbers and counts, and no more than one
+//!   record at a time.
 //! - [`read_judged`] returns that and, in the same pass, the layout, as another profile keeps it (`IsReadAndJudged`).
 //! - Both refuse as `read_layout` of oas_layout does, except that memory may run out at any byte (`RefusesKept`,
 //!   specs/Kept.antt), at the offset of the current part (`HasNoMemory` of oas_file).
@@ -15,9 +15,8 @@
 //!
 //! A record in the shortest style gives all its fields, so what it draws is a function of the record alone (`own_drawn`,
 //! specs/Own.antt), and so is what it may be in a canonical file (`IsCandidate`, specs/Candidates.antt). Where coordinates
-//! are absolute it is what the record draws after any records (`own_draws`, proofs/OwnLemmas.antt). The bytes that spell a
-//! record are read with it (`NextIs`, specs/Spelled.antt), and a judge of oas_form compares them with the canonical ones
-//! (`IsJudging`, specs/FileJudges.antt).
+//! are absolute it is what the record draws after any records (`own_draws`, proofs/OwnLemmas.antt). A judge of oas_form
+//! compares the bytes that spell a record with the canonical ones (`IsJudging`, specs/FileJudges.antt).
 //!
 //! # How it is built
 //!
@@ -31,24 +30,21 @@
 //!   byte, nothing is kept any more and the read goes on. Its invariant is that the bytes that are kept are all that the source
 //!   gave since it was lent (`IsKept`). A contract can't name what a borrow pointed to when the wrapper was made, so the wrapper
 //!   has a type parameter (`Start`) that says which source it is and where it was.
-//! - src/spelled.rt: the bytes that spell a record. They are what a source's history has grown by (`Consumed` of oas_bytes), so
-//!   bytes that were kept while a record was read spell it. A record is read from the slice of what the source has at hand
-//!   (`read_at_hand`, `ahead` of oas_bytes), and then as many bytes of it are taken (`skip`), so that they are kept all at once.
-//!   Where it can't be read there, mostly since the slice ends within it, it is read from a source that keeps its bytes
-//!   (`take_record_named`); so is the head of a file. Where these weren't kept it is out of memory. A try reads no byte after the
-//!   record, and no record is tried twice. So however little a source has at hand, the tries read no more bytes than the file
-//!   has.
-//! - src/judge.rt: the judge of a file, a `FormJudge` of oas_form with the bytes of the latest part. src/records.rt: the
-//!   loop, over any stores. An element at hand is taken the faster way (`next_at_hand`): where it is spelled in the shortest
-//!   style its bytes are the canonical ones of its element, by a law of oas_form, so none is compared or kept; where it
-//!   isn't, it is read and judged like every record. So is a placement or a text that follows an element of another kind
-//!   (src/named.rt), and a polygon that the profile keeps in another form (src/figures.rt; proofs/FigureSteps.antt: the steps
-//!   between the vertices of a plain list are that list). src/checking.rt: the two calls; the second
-//!   matches on the profile once, since the reader's stores have it as a type.
-//!
-//! - src/given.rt, src/parts.rt: a file that may be canonical is judged over counted cells, by a source that keeps its bytes,
-//!   until a record isn't as in a canonical file, or couldn't be judged for lack of memory. Then the layout is
-//!   read from these bytes and from what the source still gives (src/joined.rt).
+//! - src/judge.rt: the judge of a file, a `FormJudge` of oas_form and whether the head is as in a canonical file.
+//! - src/records.rt: a record at hand. It is read from the slice of what the source has at hand (`ahead` of oas_bytes), judged
+//!   by the bytes there, and then as many are taken (`skip`): so none is copied. An element that is spelled in the shortest
+//!   style has the canonical bytes, by a law of oas_form, and none is compared: a rectangle, a placement or a text that follows
+//!   an element of its kind (src/named.rt), or a polygon or a path that the profile keeps unchanged (src/figures.rt;
+//!   proofs/FigureSteps.antt: the steps between the vertices of a plain list are that list). Every other record is compared.
+//! - src/parts.rt, specs/Parts.antt: the loop over the parts of a file, for any stores. A part that can't be judged at hand,
+//!   mostly since what is at hand ends within it, is read from a source that keeps its bytes; so are END and the head of a
+//!   file. A try at hand reads no byte after the record, and no record is tried twice. So however little a source has at hand,
+//!   the tries read no more bytes than the file has.
+//! - src/checking.rt: the two calls that judge a whole file; the second matches on the profile once, since the reader's stores
+//!   have it as a type.
+//! - src/given.rt: a file that may be canonical is judged over counted cells, by a source that keeps its bytes, until a record
+//!   isn't as in a canonical file, or couldn't be judged for lack of memory. Then the layout is read from these bytes and from
+//!   what the source still gives (src/joined.rt).
 //!
 //! Two things shape the last. A refusal says which of the bytes that were taken decided it, so where memory runs out while
 //! kept bytes are read again, the refusal has to be right for all of them. So judging stops only behind a whole record: there
@@ -77,12 +73,11 @@ mod named;
 mod own;
 mod parts;
 mod records;
-mod spelled;
 
 // The crates below, for those above.
 pub use checking::{is_canonical, read_judged};
 pub use given::{Given, read_given};
-pub use kept::{KeptSource, Start};
+pub use kept::KeptSource;
 pub use oas_writing::{
     ByProfileOne, ByProfileTwo, Cells, CompactCell, Draft, Elements, FormJudge, KeptBy,
     KeyedElement, Layout, Refused, ShownElement, ShownPoints, file_laws, find_end_of_input,

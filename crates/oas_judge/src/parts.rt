@@ -1,51 +1,51 @@
-//! The records of a file whose bytes are kept, accepted and judged one after another, as long as it may be canonical.
-ghost use Rattle.std.specs.Prelude.{◌≡◌, ◌≤◌, List, ℕ, true, IsTrue};
-ghost use Rattle.oas_num.specs.Script.{Script, Consumed, since};
-ghost use Rattle.oas_writing.specs.Bytes.{end_bytes};
-ghost use Rattle.oas_judge.specs.FileJudges.{holds};
-ghost use Rattle.oas_judge.specs.Parts.{KeepsOne, KeepsAtHand, KeepsParts};
+//! The parts of a file, accepted and judged one after another.
+ghost use Rattle.std.specs.Prelude.{◌≡◌, Some, IfSome};
+ghost use Rattle.oas_judge.specs.declared.parts.Part.TheVariants.{End};
+ghost use Rattle.oas_judge.specs.Parts.{JudgesPart, JudgesParts};
 
 use crate::judge::FileJudge;
-use crate::kept::{KeptSource, Start};
+use crate::kept::KeptSource;
 use crate::records::next_at_hand;
-use oas_num::{Refusal, Source};
+use oas_num::{Refusal, Source, Start};
 use oas_record::Head;
-use oas_writing::{CellStore, Reader, is_end, take_record};
+use oas_writing::{CellStore, Reader, take_record};
 use std::alloc::Global;
+use std::marker::Brand;
 
 /// What was taken.
 #[derive(Clone, Copy)]
 pub(crate) enum Part {
-    /// A record, and all so far is as in a canonical file.
-    Right,
-    /// A record, and it isn't known that the file is canonical.
-    Other,
-    /// END, and whether the file is canonical.
-    End(bool),
+    /// A record, which was judged.
+    Judged,
+    /// A record, and there was no memory to judge it.
+    Unjudged,
+    /// END, and whether the file is canonical; None if there was no memory to judge that.
+    End(Option<bool>),
 }
 
-/// Whether END, which began at byte `at` and was taken last, has its canonical bytes, after all that was as in a canonical
-/// file.
-fn is_right_end<S: Source, K: Start>(
-    source: &KeptSource<'_, S, K>,
-    at: u64,
-    judge: &FileJudge,
-) -> bool
-    requires after { K.script.given ≤ at }
-    requires before { at ≤ (S.script source.now.source.now).given }
-    ensures holds { result ≡ true → IsTrue (holds judge.now) }
-    ensures bytes { result ≡ true → (mid : Script) (last : List ℕ) → at ≡ mid.given → Consumed K.script (since K.script mid) mid → Consumed mid last (S.script source.now.source.now) → end_bytes ≡ last }
-{
-    match source.since(at) {
-        Some(last) => judge.holds() && is_end(last),
-        None => false,
+impl Part {
+    /// Whether the file is canonical, where this is END, and that is known.
+    pub(crate) fn canonical(self) -> Option<bool>
+        ensures { IfSome result (λ yes. self ≡ End (Some yes)) }
+    {
+        match self {
+            Part::End(canonical) => canonical,
+            _ => None,
+        }
     }
+}
+
+/// How far the parts of a file are taken.
+#[derive(Clone, Copy)]
+pub(crate) enum Until {
+    /// Up to the first record that isn't as in a canonical file, or else up to END.
+    Other,
+    /// Up to END.
+    End,
 }
 
 /// Gives the reader the next record, which starts at byte `at`, as it is read, and shows it to the judge.
-///
-/// Where there is no memory to judge it, it is only given to the reader.
-fn keep_read<S: Source, K: Start, C: CellStore>(
+fn read_part_kept<S: Source, K: Start, C: CellStore>(
     alloc: Global,
     source: &mut KeptSource<'_, S, K>,
     head: &Head,
@@ -54,78 +54,101 @@ fn keep_read<S: Source, K: Start, C: CellStore>(
     judge: &mut FileJudge,
 ) -> Result<Part, Refusal>
     requires { at ≡ (S.script source.old.source.now).given }
-    ensures { KeepsOne C.store head.now (S.script source.old.source.now) reader.old judge.old result (S.script source.new.source.now) reader.new judge.new }
+    ensures { JudgesPart C.store head.now (S.script source.old.source.now) reader.old judge.old result (S.script source.new.source.now) reader.new judge.new }
 {
     let Some(record) = take_record(alloc, source, head.flag_in_end)? else {
-        return Ok(Part::End(is_right_end(source, at, judge)));
+        return Ok(Part::End(judge.end(source.since(at))));
     };
-    let candidate = judge.candidate(alloc, at, &record);
+    let candidate = judge.candidate(alloc, &record);
     reader.take(at, record)?;
-    let Ok(candidate) = candidate else {
-        return Ok(Part::Other);
+    if !judge.holds() {
+        return Ok(Part::Judged);
+    }
+    let Some(candidate) = candidate else {
+        return Ok(Part::Unjudged);
     };
     let Some(bytes) = source.since(at) else {
-        return Ok(Part::Other);
+        return Ok(Part::Unjudged);
     };
-    if !judge.holds() {
-        return Ok(Part::Other);
-    }
-    judge.judge_by(candidate, bytes);
-    Ok(Part::Right)
+    judge.judge(candidate, bytes);
+    Ok(Part::Judged)
 }
 
-/// Gives the reader, and shows the judge, the next record, where it is at hand and the judge can decide at once. Returns
-/// false where it does nothing.
-fn keep_at_hand<S: Source, K: Start, C: CellStore>(
+/// The same, for the source that is named. It hands the borrow back, so that its lender knows it as its own.
+///
+/// It is for the few records that can't be judged where they are at hand, mostly since what is at hand ends within them.
+#[cold]
+#[inline(never)]
+fn read_part_named<'a, S: Source, K: Start, C: CellStore>(
     alloc: Global,
-    source: &mut KeptSource<'_, S, K>,
+    source: &'a mut S,
     head: &Head,
     at: u64,
     reader: &mut Reader<C>,
     judge: &mut FileJudge,
-) -> Result<bool, Refusal>
-    requires { at ≡ (S.script source.old.source.now).given }
-    ensures { KeepsAtHand C.store head.now (S.script source.old.source.now) reader.old judge.old result (S.script source.new.source.now) reader.new judge.new }
+) -> (Result<Part, Refusal>, &'a mut S)
+    requires named { source.ghost_name ≡ K.name }
+    requires starts { S.script source.old ≡ K.script }
+    requires place { at ≡ (S.script source.old).given }
+    ensures same { result.1.ghost_name ≡ source.entry.ghost_name }
+    ensures judged { JudgesPart C.store head.now (S.script source.old) reader.old judge.old result.0 (S.script result.1.now) reader.new judge.new }
 {
-    if !judge.holds() {
-        return Ok(false);
-    }
-    next_at_hand(alloc, source, head, at, reader, judge)
+    let mut keeping: KeptSource<'a, S, K> = KeptSource::new(Vec::new(alloc), source);
+    let part = read_part_kept(alloc, &mut keeping, head, at, reader, judge);
+    let (source, _kept) = keeping.finish();
+    (part, source)
+}
+
+/// The same, for any source.
+fn read_part<S: Source, C: CellStore>(
+    alloc: Global,
+    source: &mut S,
+    head: &Head,
+    at: u64,
+    reader: &mut Reader<C>,
+    judge: &mut FileJudge,
+) -> Result<Part, Refusal>
+    requires { at ≡ (S.script source.old).given }
+    ensures { JudgesPart C.store head.now (S.script source.old) reader.old judge.old result (S.script source.new) reader.new judge.new }
+{
+    let (part, _source) = read_part_named::<S, Brand, C>(alloc, source, head, at, reader, judge);
+    part
 }
 
 /// Gives the reader, and shows the judge, the next record, which starts at byte `at`.
-fn keep_next<S: Source, K: Start, C: CellStore>(
+fn next_part<S: Source, C: CellStore>(
     alloc: Global,
-    source: &mut KeptSource<'_, S, K>,
+    source: &mut S,
     head: &Head,
     at: u64,
     reader: &mut Reader<C>,
     judge: &mut FileJudge,
 ) -> Result<Part, Refusal>
-    requires { at ≡ (S.script source.old.source.now).given }
-    ensures { KeepsOne C.store head.now (S.script source.old.source.now) reader.old judge.old result (S.script source.new.source.now) reader.new judge.new }
+    requires { at ≡ (S.script source.old).given }
+    ensures { JudgesPart C.store head.now (S.script source.old) reader.old judge.old result (S.script source.new) reader.new judge.new }
 {
-    if keep_at_hand(alloc, source, head, at, reader, judge)? {
-        return Ok(Part::Right);
+    if next_at_hand(alloc, source, head, at, reader, judge)? {
+        return Ok(Part::Judged);
     }
-    keep_read(alloc, source, head, at, reader, judge)
+    read_part(alloc, source, head, at, reader, judge)
 }
 
 /// Gives the reader, and shows the judge, the records up to END, or up to one at which the file isn't known to be canonical.
 /// Returns what was taken last, and its offset.
-pub(crate) fn keep_parts<S: Source, K: Start, C: CellStore>(
+pub(crate) fn judge_parts<S: Source, C: CellStore>(
     alloc: Global,
-    source: &mut KeptSource<'_, S, K>,
+    source: &mut S,
     head: Head,
     reader: &mut Reader<C>,
     judge: &mut FileJudge,
+    until: Until,
 ) -> Result<(Part, u64), Refusal>
-    ensures { KeepsParts C.store head (S.script source.old.source.now) reader.old judge.old result (S.script source.new.source.now) reader.new judge.new }
+    ensures { JudgesParts C.store head (S.script source.old) reader.old judge.old result (S.script source.new) reader.new judge.new }
 {
     let mut at = source.at();
     'parts: loop {
-        match keep_next(alloc, source, &head, at, reader, judge)? {
-            Part::Right if judge.holds() => at = source.at(),
+        match next_part(alloc, source, &head, at, reader, judge)? {
+            Part::Judged if matches!(until, Until::End) || judge.holds() => at = source.at(),
             part => return Ok((part, at)),
         }
     }

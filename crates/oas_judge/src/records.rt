@@ -1,13 +1,36 @@
-//! The records of a file, accepted and judged one after another.
-ghost use Rattle.std.specs.Prelude.{◌≡◌};
-ghost use Rattle.oas_judge.specs.Judged.{JudgesRecords, JudgesOne, JudgesPeeked};
+//! A record that is at hand, accepted and judged.
+ghost use Rattle.std.specs.Prelude.{◌≡◌, IfSome};
+ghost use Rattle.oas_judge.specs.Parts.{JudgesAtHand};
+ghost use Rattle.oas_judge.specs.Peeked.{IsFound};
 
 use crate::judge::FileJudge;
-use oas_num::{Refusal, Source};
+use oas_num::{Refusal, SliceSource, Source};
 use oas_peek::{peek_figure, peek_named, peek_rectangle};
-use oas_record::Head;
-use oas_writing::{CellStore, Reader};
+use oas_record::{Head, Record};
+use oas_writing::{CellStore, Reader, take_record};
 use std::alloc::Global;
+
+/// A record before END at the start of some bytes.
+#[derive(Drop)]
+struct Found {
+    record: Record,
+    /// How many of the bytes spell it.
+    length: usize,
+}
+
+/// The record before END that the first of these bytes spell. None if out of memory, or they spell none.
+fn find_record(alloc: Global, bytes: &[u8], flag_in_end: bool) -> Option<Found>
+    ensures { IfSome result (λ found. IsFound flag_in_end bytes.now found) }
+{
+    let mut source = SliceSource::new(bytes, bytes.len() as u64);
+    match take_record(alloc, &mut source, flag_in_end) {
+        Ok(Some(record)) => Some(Found {
+            record,
+            length: source.at() as usize,
+        }),
+        _ => None,
+    }
+}
 
 /// Gives the reader, and shows the judge, a rectangle that is at hand, where the judge can decide at once. Returns false
 /// where it does nothing.
@@ -19,7 +42,7 @@ fn next_rectangle<S: Source, C: CellStore>(
     judge: &mut FileJudge,
 ) -> Result<bool, Refusal>
     requires { at ≡ (S.script source.old).given }
-    ensures { JudgesPeeked C.store head.now (S.script source.old) reader.old judge.old result (S.script source.new) reader.new judge.new }
+    ensures { JudgesAtHand C.store head.now (S.script source.old) reader.old judge.old result (S.script source.new) reader.new judge.new }
 {
     let Some(found) = peek_rectangle(source.ahead()) else {
         return Ok(false);
@@ -42,7 +65,7 @@ fn next_named<S: Source, C: CellStore>(
     judge: &mut FileJudge,
 ) -> Result<bool, Refusal>
     requires { at ≡ (S.script source.old).given }
-    ensures { JudgesPeeked C.store head.now (S.script source.old) reader.old judge.old result (S.script source.new) reader.new judge.new }
+    ensures { JudgesAtHand C.store head.now (S.script source.old) reader.old judge.old result (S.script source.new) reader.new judge.new }
 {
     let Some(found) = peek_named(source.ahead()) else {
         return Ok(false);
@@ -68,7 +91,7 @@ fn next_figure<S: Source, C: CellStore>(
     judge: &mut FileJudge,
 ) -> Result<bool, Refusal>
     requires { at ≡ (S.script source.old).given }
-    ensures { JudgesPeeked C.store head.now (S.script source.old) reader.old judge.old result (S.script source.new) reader.new judge.new }
+    ensures { JudgesAtHand C.store head.now (S.script source.old) reader.old judge.old result (S.script source.new) reader.new judge.new }
 {
     let Some(found) = peek_figure(alloc, source.ahead()) else {
         return Ok(false);
@@ -81,8 +104,39 @@ fn next_figure<S: Source, C: CellStore>(
     Ok(true)
 }
 
-/// Gives the reader, and shows the judge, the next record, where it is at hand and the judge can decide at once. Returns
-/// false where it does nothing.
+/// Gives the reader, and shows the judge, any record that is at hand. Returns false where it does nothing: at END, where no
+/// record is at hand, or if out of memory.
+///
+/// It is a function of its own since whole records are moved here, and a call begins by clearing room for each of them.
+fn next_record<S: Source, C: CellStore>(
+    alloc: Global,
+    source: &mut S,
+    head: &Head,
+    at: u64,
+    reader: &mut Reader<C>,
+    judge: &mut FileJudge,
+) -> Result<bool, Refusal>
+    requires { at ≡ (S.script source.old).given }
+    ensures { JudgesAtHand C.store head.now (S.script source.old) reader.old judge.old result (S.script source.new) reader.new judge.new }
+{
+    // A try reads no byte after the record, and each record is tried once. So where it fails, since the bytes at hand end
+    // within the record or it is refused, that costs no more than reading the record's bytes once again.
+    let ahead = source.ahead();
+    let Some(found) = find_record(alloc, ahead, head.flag_in_end) else {
+        return Ok(false);
+    };
+    let Some(candidate) = judge.candidate(alloc, &found.record) else {
+        return Ok(false);
+    };
+    judge.judge(candidate, &ahead[..found.length]);
+    source.skip(found.length);
+    reader.take(at, found.record)?;
+    Ok(true)
+}
+
+/// Gives the reader, and shows the judge, the next record, where it is at hand. Returns false where it does nothing.
+///
+/// An element that is spelled in the shortest style is judged by its fields, and none of its bytes is compared.
 pub(crate) fn next_at_hand<S: Source, C: CellStore>(
     alloc: Global,
     source: &mut S,
@@ -92,7 +146,7 @@ pub(crate) fn next_at_hand<S: Source, C: CellStore>(
     judge: &mut FileJudge,
 ) -> Result<bool, Refusal>
     requires { at ≡ (S.script source.old).given }
-    ensures { JudgesPeeked C.store head.now (S.script source.old) reader.old judge.old result (S.script source.new) reader.new judge.new }
+    ensures { JudgesAtHand C.store head.now (S.script source.old) reader.old judge.old result (S.script source.new) reader.new judge.new }
 {
     if next_rectangle(source, head, at, reader, judge)? {
         return Ok(true);
@@ -100,64 +154,8 @@ pub(crate) fn next_at_hand<S: Source, C: CellStore>(
     if next_named(source, head, at, reader, judge)? {
         return Ok(true);
     }
-    next_figure(alloc, source, head, at, reader, judge)
-}
-
-/// Gives the reader the next record, which starts at byte `at`, as it is read, and shows it to the judge. Returns false where
-/// it is END.
-///
-/// It is a function of its own since whole records are moved here, and a call begins by clearing room for each of them.
-fn judge_read<S: Source, C: CellStore>(
-    alloc: Global,
-    source: &mut S,
-    head: &Head,
-    at: u64,
-    reader: &mut Reader<C>,
-    judge: &mut FileJudge,
-) -> Result<bool, Refusal>
-    requires { at ≡ (S.script source.old).given }
-    ensures { JudgesOne C.store head.now (S.script source.old) reader.old judge.old result (S.script source.new) reader.new judge.new }
-{
-    let Some(record) = judge.next(alloc, source, head.flag_in_end)? else {
-        return Ok(false);
-    };
-    let candidate = judge.candidate(alloc, at, &record)?;
-    reader.take(at, record)?;
-    judge.judge(candidate);
-    Ok(true)
-}
-
-/// The same, where a record that is at hand is taken the faster way.
-fn judge_next<S: Source, C: CellStore>(
-    alloc: Global,
-    source: &mut S,
-    head: &Head,
-    at: u64,
-    reader: &mut Reader<C>,
-    judge: &mut FileJudge,
-) -> Result<bool, Refusal>
-    requires { at ≡ (S.script source.old).given }
-    ensures { JudgesOne C.store head.now (S.script source.old) reader.old judge.old result (S.script source.new) reader.new judge.new }
-{
-    if next_at_hand(alloc, source, head, at, reader, judge)? {
+    if next_figure(alloc, source, head, at, reader, judge)? {
         return Ok(true);
     }
-    judge_read(alloc, source, head, at, reader, judge)
-}
-
-/// Gives the reader, and shows the judge, the records up to END. Returns END's offset.
-pub(crate) fn judge_records<S: Source, C: CellStore>(
-    alloc: Global,
-    source: &mut S,
-    head: Head,
-    reader: &mut Reader<C>,
-    judge: &mut FileJudge,
-) -> Result<u64, Refusal>
-    ensures { JudgesRecords C.store head (S.script source.old) reader.old judge.old result (S.script source.new) reader.new judge.new }
-{
-    let mut at = source.at();
-    while judge_next(alloc, source, &head, at, reader, judge)? {
-        at = source.at();
-    }
-    Ok(at)
+    next_record(alloc, source, head, at, reader, judge)
 }

@@ -1,17 +1,16 @@
+use Rattle.std.proofs.Common.{refl}
 use Rattle.std.proofs.lemmas.Result.{err_from_is_err_and}
-use Rattle.oas_judge.proofs.RecordSteps.{peeked_refused, peeked_seen, peeked_grows}
+use Rattle.oas_judge.proofs.RecordSteps.{peeked, part_refused, part_seen}
 use Rattle.oas_judge.proofs.records.next_rectangle.Goals as goal
 
 pub returns-in_err-take_rectangle : goal.returns-in_err-take_rectangle
 returns-in_err-take_rectangle g c =
     let p = err_from_is_err_and c.from_residual.result c.from_residual.ensures.1 in
     let is = rw c.ahead.ensures at c.in-Some.ensures in
-    rw (p.1, p.2) (peeked_refused (λ e. cc) is.spelled c.skip.ensures c.args.at _ c.requires c.in_err-take_rectangle.ensures.refused)
+    rw (p.1, p.2) (part_refused (peeked (λ e. cc) is.spelled c.skip.ensures) c.args.at _ c.requires c.in_err-take_rectangle.ensures.refused)
 
 pub returns : goal.returns
 returns g c =
-    let is = rw c.ahead.ensures at c.in-Some.ensures in (
-      peeked_grows (λ e. cc) is.spelled c.skip.ensures,
-      peeked_seen (λ e. cc) is.spelled c.skip.ensures c.in_ok-take_rectangle.ensures.taken c.in_ok-take_rectangle.ensures.unit c.in_ok-take_rectangle.ensures.limits c.in_ok-take_rectangle.ensures.profile
-          (c.judge_rectangle.ensures.yes c.if-not-judge_rectangle.false _ is),
-    )
+    let is = rw c.ahead.ensures at c.in-Some.ensures in
+    part_seen (peeked (λ e. cc) is.spelled c.skip.ensures) c.in_ok-take_rectangle.ensures.taken c.in_ok-take_rectangle.ensures.unit c.in_ok-take_rectangle.ensures.limits c.in_ok-take_rectangle.ensures.profile
+    (c.judge_rectangle.ensures.yes c.if-not-judge_rectangle.false _ is) (λ told. refl)

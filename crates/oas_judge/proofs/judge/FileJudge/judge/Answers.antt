@@ -6,7 +6,7 @@ use Rattle.oas_judge.proofs.judge.FileJudge.judge.Goals as goal
 pub returns-then-holds : goal.returns-then-holds
 returns-then-holds c =
     let told : IsTrue (holds c.args.self.now) = sym c.holds.ensures ∙ c.if-holds.true in
-    rw c.deref.ensures.value at (c.judge_form.ensures c.args.self.now refl told)
+    c.judge_form.ensures c.args.self.now refl told
 
 pub returns-else-holds : goal.returns-else-holds
 returns-else-holds c =

@@ -1,14 +1,14 @@
 use Rattle.std.proofs.Common.{◌≡◌, ◌-◌, ◌^◌}
 use Rattle.oas_elements.specs.declared.profile.Profile.{Profile}
 use Rattle.oas_judge.specs.Judged.{HasBegun, HasSeen}
-use Rattle.oas_judge.proofs.records.judge_records.Given as goal
+use Rattle.oas_judge.proofs.parts.judge_parts.Given as goal
 
-abbrev pub invariant-loop-source : goal.invariant-loop-source
-invariant-loop-source g l = record {
+abbrev pub invariant-parts : goal.invariant-parts
+invariant-parts g l = record {
   place : l.at ≡ (g.S.Source.script l.source).given;
   seen : (profile : Profile) (b : HasBegun g.C.CellStore.store profile l.head (g.S.Source.script l.fn.source) l.fn.reader l.fn.judge)
       → HasSeen g.C.CellStore.store profile l.head b.begun.start b.origin l.fn.reader (g.S.Source.script l.source) l.reader l.judge;
 }
 
-abbrev pub decreases-loop-source : goal.decreases-loop-source
-decreases-loop-source g l = 2 ^ 64 - l.at
+abbrev pub decreases-parts : goal.decreases-parts
+decreases-parts g l = 2 ^ 64 - l.at
