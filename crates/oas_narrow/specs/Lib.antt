@@ -10,7 +10,6 @@ pub use Rattle.oas_block.specs.WideEnd
 pub use Rattle.oas_block.specs.WideReal
 pub use Rattle.oas_block.specs.WideRecord
 pub use Rattle.oas_block.specs.WideRecords
-pub use Rattle.oas_block.specs.WideRefusal
 pub use Rattle.oas_block.specs.WideStart
 pub use Rattle.oas_block.specs.WideWhy
 pub use Rattle.oas_block.specs.Zeros
@@ -25,6 +24,7 @@ pub use Rattle.oas_reader.specs.Names
 pub use Rattle.oas_reader.specs.Standing
 pub use Rattle.oas_reader.specs.Stands
 pub use Rattle.oas_reader.specs.Stores
+pub use Rattle.oas_trapezoids.specs.Kept
 pub use Rattle.oas_trapezoids.specs.Laws
 pub use Rattle.oas_trapezoids.specs.Steps
 pub use Rattle.oas_trapezoids.specs.Tracked

@@ -46,9 +46,9 @@ mod turning;
 pub use dropping::{Dropping, Extra, Report};
 pub use oas_block::{
     BlockEnd, BlockFault, BlockHead, Inflated, InflatedSource, Validation, WideEnd, WideReal,
-    WideRecord, WideRefusal, WideStart, WideWhy, read_block,
+    WideRecord, WideStart, WideWhy, read_block,
 };
-pub use oas_checksum::{Start, SummedSource, Sums};
+pub use oas_checksum::{SummedSource, Sums};
 pub use oas_reader::{CellStore, Reader};
 pub use oas_trapezoids::{Resolved, Resolver};
 pub use places::{Place, Rejection};

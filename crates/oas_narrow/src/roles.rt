@@ -26,18 +26,6 @@ pub enum Role {
     Missing(u64),
 }
 
-/// The role of a record of the profile.
-fn plain_role(next: &Record) -> Role
-    ensures { result ≡ plain_role next.now }
-{
-    match next {
-        Record::Pad | Record::End | Record::XyAbsolute | Record::XyRelative => Role::Other,
-        Record::CellName { .. } | Record::TextString { .. } => Role::Name,
-        Record::Cell(_) => Role::Cell,
-        _ => Role::Element(next.id()),
-    }
-}
-
 /// The id of a TRAPEZOID, by the deltas that it has.
 fn trapezoid_id(next: &Trapezoid) -> u64
     ensures { result ≡ trapezoid_id next.now }
@@ -74,12 +62,24 @@ fn unnamed(is_named: bool, extra: Extra) -> Option<WideWhy>
 }
 
 impl Role {
+    /// The role of a record of the profile.
+    pub fn of_plain(next: &Record) -> Role
+        ensures { result ≡ plain_role next.now }
+    {
+        match next {
+            Record::Pad | Record::End | Record::XyAbsolute | Record::XyRelative => Role::Other,
+            Record::CellName { .. } | Record::TextString { .. } => Role::Name,
+            Record::Cell(_) => Role::Cell,
+            _ => Role::Element(next.id()),
+        }
+    }
+
     /// The role of a record.
     pub fn of(next: &WideRecord) -> Role
         ensures { result ≡ role_of next.now }
     {
         match next {
-            WideRecord::Profile(kept) => plain_role(kept),
+            WideRecord::Profile(kept) => Role::of_plain(kept),
             WideRecord::End(_) => Role::Missing(2),
             WideRecord::PropertyName { .. } | WideRecord::PropertyString { .. } => {
                 Role::Extra(Extra::PropertyName)

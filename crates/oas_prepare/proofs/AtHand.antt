@@ -15,19 +15,24 @@ use Rattle.oas_peek.specs.declared.rectangles.PeekedRectangle.{PeekedRectangle}
 use Rattle.oas_peek.specs.Figures.{IsFigure, IsPeekedFigure}
 use Rattle.oas_peek.specs.Named.{IsPeekedNamed, named_record}
 use Rattle.oas_peek.specs.Peeked.{IsPeeked}
-use Rattle.oas_narrow.specs.WideFiles.{inner_in}
+use Rattle.oas_narrow.specs.Stores.{Store}
+use Rattle.oas_narrow.specs.WideFiles.{inner_in, IsInner}
 use Rattle.oas_narrow.specs.WideRecord.{WideRecord}
 use Rattle.oas_narrow.specs.WideRecord.TheVariants.{Profile}
 use Rattle.oas_narrow.specs.WideRecords.{wide_record_in, widened}
+use Rattle.oas_narrow.specs.declared.places.Rejection.{Rejection}
 use Rattle.oas_narrow.proofs.WidenedLemmas.{widen}
-use Rattle.oas_prepare.specs.declared.peeking.PeekedRecord.{PeekedRecord}
-use Rattle.oas_prepare.specs.Peeking.{IsPeekedRecord}
+use Rattle.oas_prepare.specs.Gathering.{StopsOne}
+use Rattle.oas_prepare.specs.Taking.{State, Stands, IsStop}
 
 -- ---- records that are none of the standard's own
 
+pub plain_inner : (r : Record) → IsInner (Profile r)
+plain_inner r = record { no_end = λ end e. cc; no_block = λ head e. cc }
+
 as_inner : (r : Record) (bytes : List ℕ) → widened r ≡ Profile r → ((in_end : Bool) → record_in Any in_end r bytes) → (in_end : Bool) → inner_in in_end (Profile r) bytes
 as_inner r bytes is h in_end = record {
-  holds = record { no_end = λ end e. cc; no_block = λ head e. cc };
+  holds = plain_inner r;
   spelled = subst (λ (w : WideRecord). wide_record_in in_end w bytes) is (widen in_end r bytes (h in_end));
 }
 
@@ -40,27 +45,40 @@ figure_kept (Polygon p) h = refl
 figure_kept (Path p) h = refl
 figure_kept _ h = absurd h
 
--- ---- at hand
+-- ---- each is read by taking its bytes
 
-pub rectangle_at_hand : {bytes : List ℕ} {ahead : PeekedRectangle} → IsPeeked bytes ahead → IsPeekedRecord bytes (record { next = Rectangle ahead.rectangle; length = ahead.length })
-rectangle_at_hand {bytes = bytes} {ahead = ahead} is = record {
-  within = is.within;
-  spelled = as_inner (Rectangle ahead.rectangle) (take ahead.length bytes) refl is.spelled;
+pub rectangle_read : {old new : Script} {bytes : List ℕ} {ahead : PeekedRectangle} (in_end : Bool) → IsPeeked bytes ahead → Consumed old (take ahead.length bytes) new → ReadsValue (inner_in in_end) old (Profile (Rectangle ahead.rectangle)) new
+rectangle_read {bytes = bytes} {ahead = ahead} in_end is takes = record {
+  bytes = take ahead.length bytes;
+  takes = takes;
+  spelled = as_inner (Rectangle ahead.rectangle) (take ahead.length bytes) refl is.spelled in_end;
 }
 
-pub named_at_hand : {bytes : List ℕ} {ahead : PeekedNamed} → IsPeekedNamed bytes ahead → IsPeekedRecord bytes (record { next = named_record ahead.element; length = ahead.length })
-named_at_hand {bytes = bytes} {ahead = ahead} is = record {
-  within = is.within;
-  spelled = as_inner (named_record ahead.element) (take ahead.length bytes) (named_kept ahead.element) is.spelled;
+pub named_read : {old new : Script} {bytes : List ℕ} {ahead : PeekedNamed} (in_end : Bool) → IsPeekedNamed bytes ahead → Consumed old (take ahead.length bytes) new → ReadsValue (inner_in in_end) old (Profile (named_record ahead.element)) new
+named_read {bytes = bytes} {ahead = ahead} in_end is takes = record {
+  bytes = take ahead.length bytes;
+  takes = takes;
+  spelled = as_inner (named_record ahead.element) (take ahead.length bytes) (named_kept ahead.element) is.spelled in_end;
 }
 
-pub figure_at_hand : {bytes : List ℕ} {ahead : PeekedFigure} → IsPeekedFigure bytes ahead → IsPeekedRecord bytes (record { next = ahead.record; length = ahead.length })
-figure_at_hand {bytes = bytes} {ahead = ahead} is = record {
-  within = is.within;
-  spelled = as_inner ahead.record (take ahead.length bytes) (figure_kept ahead.record is.figure) is.spelled;
+pub figure_read : {old new : Script} {bytes : List ℕ} {ahead : PeekedFigure} (in_end : Bool) → IsPeekedFigure bytes ahead → Consumed old (take ahead.length bytes) new → ReadsValue (inner_in in_end) old (Profile ahead.record) new
+figure_read {bytes = bytes} {ahead = ahead} in_end is takes = record {
+  bytes = take ahead.length bytes;
+  takes = takes;
+  spelled = as_inner ahead.record (take ahead.length bytes) (figure_kept ahead.record is.figure) is.spelled in_end;
 }
 
--- ---- it is read by taking its bytes
+-- ---- so is another record before END
 
-pub peeked_read : {old new : Script} {bytes : List ℕ} {ahead : PeekedRecord} (in_end : Bool) → IsPeekedRecord bytes ahead → Consumed old (take ahead.length bytes) new → ReadsValue (inner_in in_end) old (Profile ahead.next) new
-peeked_read in_end is takes = record { bytes = _; takes = takes; spelled = is.spelled in_end }
+pub inner_read : {old new : Script} {in_end : Bool} {w : WideRecord} → IsInner w → ReadsValue (wide_record_in in_end) old w new → ReadsValue (inner_in in_end) old w new
+inner_read inner read = record { bytes = read.bytes; takes = read.takes; spelled = record { holds = inner; spelled = read.spelled } }
+
+-- ---- and then it isn't prepared
+
+pub stops_one : {C : Type 0} {t : Store C} {old new : Script} {in_end : Bool} {first : State C} {at : ℕ} {w : WideRecord} {e : Rejection} → at ≡ old.given → ReadsValue (inner_in in_end) old w new
+    → ((ws : List WideRecord) → Stands t first ws → IsStop at first.reader.limits first.dropping ws w e) → StopsOne t in_end old first e new
+stops_one {first = first} {w = w} {e = e} is read stopped = record {
+  next = w;
+  read = read;
+  stopped = λ ws s. subst (λ (n : ℕ). IsStop n first.reader.limits first.dropping ws w e) is (stopped ws s);
+}

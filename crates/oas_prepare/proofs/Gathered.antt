@@ -1,5 +1,5 @@
 -- One more record, END, or a rejection there.
-use Rattle.std.proofs.Common.{◌≡◌, ℕ, [], ◌∷◌, ◌++◌, None, Some, inl, inr, refl, sym, ap, subst, ◌∙◌, append_assoc, arith}
+use Rattle.std.proofs.Common.{◌≡◌, ℕ, [], ◌∷◌, ◌++◌, None, Some, ◌⊎◌, inl, inr, refl, sym, ap, subst, ◌∙◌, append_assoc, arith}
 use Rattle.oas_num.specs.Reading.{ReadsValue}
 use Rattle.oas_num.specs.Script.{Script, Consumed}
 use Rattle.oas_num.specs.Ratio.{Ratio}
@@ -8,20 +8,17 @@ use Rattle.oas_elements.specs.declared.limits.Limits.{Limits}
 use Rattle.oas_narrow.specs.Stores.{Store}
 use Rattle.oas_narrow.specs.WideEnd.{WideEnd}
 use Rattle.oas_narrow.specs.WideStart.{WideStart}
-use Rattle.oas_narrow.specs.WideRefusal.{WideRefusal}
 use Rattle.oas_narrow.specs.WideWhy.{WideWhy}
 use Rattle.oas_narrow.specs.WideRecord.{WideRecord}
 use Rattle.oas_narrow.specs.WideRecord.TheVariants.{End}
 use Rattle.oas_narrow.specs.Reasons.{plain_of}
-use Rattle.oas_narrow.specs.WideRecords.{FailsWide}
 use Rattle.oas_narrow.specs.declared.dropping.Dropping.{Dropping}
 use Rattle.oas_narrow.specs.declared.places.Place.{Place}
 use Rattle.oas_narrow.specs.declared.places.Place.TheVariants.{File}
 use Rattle.oas_narrow.specs.declared.places.Rejection.{Rejection}
 use Rattle.oas_narrow.specs.Preparable.{AllPrepared}
-use Rattle.oas_narrow.specs.Rejections.{rejected}
 use Rattle.oas_narrow.specs.WideFiles.{WidePrefixOf, inner_in, end_in, AsRecord}
-use Rattle.oas_prepare.specs.Gathering.{HasGathered, HasAll}
+use Rattle.oas_prepare.specs.Gathering.{FailsOne, HasTakenOne, StopsOne, HasGathered, HasAll}
 use Rattle.oas_prepare.specs.Heads.{HasStarted}
 use Rattle.oas_prepare.specs.Places.{ByRecord, StopsAt}
 use Rattle.oas_prepare.specs.Reasons.{DecidedAt, TheNext, IsReasoned}
@@ -45,6 +42,10 @@ gathered_none s stands = record {
   same = record { unit = refl; limits = refl; dropping = refl };
 }
 
+-- the result is the same
+pub still_gathered : {C : Type 0} {t : Store C} {origin mid : Script} {head : WideStart} {first p q : State C} → q ≡ p → HasGathered t origin head first mid p → HasGathered t origin head first mid q
+still_gathered {t = t} {origin = origin} {mid = mid} {head = head} {first = first} e m = subst (HasGathered t origin head first mid) (sym e) m
+
 module _ {C : Type 0} {t : Store C} {origin mid : Script} {head : WideStart} {first p : State C} (m : HasGathered t origin head first mid p) where
   abbrev limits : Limits
   limits = first.reader.limits
@@ -54,8 +55,9 @@ module _ {C : Type 0} {t : Store C} {origin mid : Script} {head : WideStart} {fi
 
   module _ {new : Script} where
     -- a record can't be read
-    pub gather_fails : (refusal : WideRefusal) → (refusal.at ≡ mid.given) × FailsWide head.flag_in_end mid refusal.why new → Stops limits dropping origin (rejected refusal) new
-    gather_fails refusal h = record_stops refusal.at refusal.why m.front m.prepared m.takes h.0 h.1
+    gather_fails : (e : Rejection) → FailsOne head.flag_in_end mid e new → Stops limits dropping origin e new
+    gather_fails e f =
+        subst (λ (place : Place). Stops limits dropping origin (record { place = place; why = e.why }) new) (sym f.place) (record_stops mid.given e.why m.front m.prepared m.takes refl f.fails)
 
     module _ {w : WideRecord} (read : ReadsValue (inner_in head.flag_in_end) mid w new) where
       both : Consumed origin (m.bytes ++ read.bytes) new
@@ -69,7 +71,7 @@ module _ {C : Type 0} {t : Store C} {origin mid : Script} {head : WideStart} {fi
       same_next = ap (λ (b : Limits × Dropping). obstacle_next b.0 b.1 m.records w) (λ i. (m.same.limits i, m.same.dropping i))
 
       -- a record is read and taken
-      pub gather_more : (after : State C) → (obstacle_next p.reader.limits p.dropping m.records w ≡ None) × Stands t after (m.records ++ w ∷ []) → SameRun p after
+      gather_more : (after : State C) → (obstacle_next p.reader.limits p.dropping m.records w ≡ None) × Stands t after (m.records ++ w ∷ []) → SameRun p after
           → HasGathered t origin head first new after
       gather_more after h same = record {
         records = m.records ++ w ∷ [];
@@ -132,8 +134,17 @@ module _ {C : Type 0} {t : Store C} {origin mid : Script} {head : WideStart} {fi
         judged (inr some) = Decided (obstacle_decides limits dropping m.records w e.why some) (λ more a. not_prepared e.why some (prefix_allowed more front a.formed))
 
       -- or it isn't prepared
-      pub gather_stops : (at : ℕ) (e : Rejection) → at ≡ mid.given → IsStop at p.reader.limits p.dropping m.records w e → Stops limits dropping origin e new
-      gather_stops at e is stop = next_stops at e stop.place is (subst (λ (b : Limits × Dropping). MayStop b.0 b.1 m.records w e.why) (λ i. (m.same.limits i, m.same.dropping i)) stop.why)
+      gather_stops : (e : Rejection) → IsStop mid.given p.reader.limits p.dropping m.records w e → Stops limits dropping origin e new
+      gather_stops e stop = next_stops mid.given e stop.place refl (subst (λ (b : Limits × Dropping). MayStop b.0 b.1 m.records w e.why) (λ i. (m.same.limits i, m.same.dropping i)) stop.why)
+
+    -- the next record is taken
+    pub one_more : {after : State C} → HasTakenOne t head.flag_in_end mid p new after → HasGathered t origin head first new after
+    one_more o = gather_more o.read _ (o.taken m.records m.stands) o.same
+
+    -- or it isn't prepared, or can't be read
+    pub one_stops : (e : Rejection) → FailsOne head.flag_in_end mid e new ⊎ StopsOne t head.flag_in_end mid p e new → Stops limits dropping origin e new
+    one_stops e (inl f) = gather_fails e f
+    one_stops e (inr o) = gather_stops o.read e (o.stopped m.records m.stands)
 
     -- END is read
     pub gather_ends : (at : ℕ) (end : WideEnd) → at ≡ mid.given → ReadsValue (end_in head.flag_in_end) mid end new → HasAll t origin head first at end new p

@@ -24,7 +24,7 @@ use Rattle.oas_narrow.specs.Preparable.{AllPrepared}
 use Rattle.oas_narrow.specs.WideFiles.{inner_in}
 use Rattle.oas_prepare.specs.DataReasons.{DecidedInData, StopsFor, Unread as NoRecord, EndThere, BlockThere, NotPrepared}
 use Rattle.oas_prepare.specs.Deciding.{decides}
-use Rattle.oas_prepare.specs.Inside.{FailsInside, Unread, EndInside, BlockInside, IsOfData, StopsInner}
+use Rattle.oas_prepare.specs.Inside.{StopsInside, Unread, NotTaken, EndInside, BlockInside, IsOfData, StopsInner}
 use Rattle.oas_prepare.specs.Places.{IsNext}
 use Rattle.oas_prepare.specs.Taking.{State, IsStop, MayStop}
 use Rattle.oas_prepare.proofs.Fronts.{allowed_last}
@@ -140,22 +140,8 @@ module _ {C : Type 0} {t : Store C} {in_end : Bool} {first : State C} {records :
       by (Writer is) = absurd (wide_never in_end e.why f.bytes (whole_piece f) is)
       by (Room is) = wanting e place stops (memory_is e.why is)
 
-    -- since what is there is not allowed in a block
-    pub some_fails : {new : Script} (e : Rejection) → FailsInside in_end mid e new → Refused e
-    some_fails e (Unread place f) = unread e place f
-    some_fails e (EndInside end is read) =
-        refused e (ap (λ (x : Rejection). x.place) is)
-        (EndThere (record { end = end; taken = read.bytes; rest = (then m read.takes).left; joined = left_is m read.takes; spelled = read.spelled; is = ap (λ (x : Rejection). x.why) is })) (inr (subst (λ (x : Rejection). IsTrue (decides x.why)) (sym is) refl)) (record {
-          none = λ w front rest next j. record_no_end in_end w end front read.bytes rest (then m read.takes).left next.spelled read.spelled (sym j ∙ left_is m read.takes);
-        })
-    some_fails e (BlockInside head is read) =
-        refused e (ap (λ (x : Rejection). x.place) is)
-        (BlockThere (record { head = head; taken = read.bytes; rest = (then m read.takes).left; joined = left_is m read.takes; spelled = read.spelled; is = ap (λ (x : Rejection). x.why) is })) (inr (subst (λ (x : Rejection). IsTrue (decides x.why)) (sym is) refl)) (record {
-          none = λ w front rest next j. record_no_block in_end w head front read.bytes rest (then m read.takes).left next.spelled read.spelled (sym j ∙ left_is m read.takes);
-        })
-
     -- since it isn't prepared
-    pub some_stops : (at : ℕ) → at ≡ mid.given → {new : Script} {w : WideRecord} → ReadsValue (inner_in in_end) mid w new → (e : Rejection) → IsStop at p.reader.limits p.dropping before w e → Refused e
+    some_stops : (at : ℕ) → at ≡ mid.given → {new : Script} {w : WideRecord} → ReadsValue (inner_in in_end) mid w new → (e : Rejection) → IsStop at p.reader.limits p.dropping before w e → Refused e
     some_stops at is_at {w = w} read e stop = by (subst (λ (b : Limits × Dropping). MayStop b.0 b.1 before w e.why) (λ i. (m.made.same.limits i, m.made.same.dropping i)) stop.why) where
       place : e.place ≡ File mid.given
       place = stop.place ∙ ap File is_at
@@ -172,3 +158,18 @@ module _ {C : Type 0} {t : Store C} {in_end : Bool} {first : State C} {records :
             let clash = sym none ∙ some in
             cc;
       })
+
+    -- for one of these, or since what is there is not allowed in a block
+    pub some_inside : {new : Script} (e : Rejection) → StopsInside t in_end mid p e new → Refused e
+    some_inside e (Unread f) = unread e f.place f.fails
+    some_inside e (NotTaken o) = some_stops mid.given refl o.read e (o.stopped before m.made.stands)
+    some_inside e (EndInside end is read) =
+        refused e (ap (λ (x : Rejection). x.place) is)
+        (EndThere (record { end = end; taken = read.bytes; rest = (then m read.takes).left; joined = left_is m read.takes; spelled = read.spelled; is = ap (λ (x : Rejection). x.why) is })) (inr (subst (λ (x : Rejection). IsTrue (decides x.why)) (sym is) refl)) (record {
+          none = λ w front rest next j. record_no_end in_end w end front read.bytes rest (then m read.takes).left next.spelled read.spelled (sym j ∙ left_is m read.takes);
+        })
+    some_inside e (BlockInside head is read) =
+        refused e (ap (λ (x : Rejection). x.place) is)
+        (BlockThere (record { head = head; taken = read.bytes; rest = (then m read.takes).left; joined = left_is m read.takes; spelled = read.spelled; is = ap (λ (x : Rejection). x.why) is })) (inr (subst (λ (x : Rejection). IsTrue (decides x.why)) (sym is) refl)) (record {
+          none = λ w front rest next j. record_no_block in_end w head front read.bytes rest (then m read.takes).left next.spelled read.spelled (sym j ∙ left_is m read.takes);
+        })

@@ -3,6 +3,7 @@ pub use Rattle.oas_canon.proofs.Whole as CanonWhole
 pub use Rattle.oas_canon.proofs.Written
 pub mod Narrowed
 pub mod Consumed
+pub mod Plain
 pub mod ResolvedLemmas
 pub mod WideLaws
 pub mod Items

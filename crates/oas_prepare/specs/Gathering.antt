@@ -1,5 +1,5 @@
 -- What gathering the records of a file does.
-use Rattle.std.specs.Prelude.{◌≡◌, ℕ, Bool, ◌+◌, List, ◌++◌, length, Result, Ok, Err}
+use Rattle.std.specs.Prelude.{◌≡◌, ◌⊎◌, ℕ, Bool, ◌+◌, List, [], ◌∷◌, ◌++◌, length, None, Result, Ok, Err}
 use Rattle.oas_num.specs.Reading.{ReadsValue}
 use Rattle.oas_num.specs.Script.{Script, Consumed, IsAtEnd}
 use Rattle.oas_narrow.specs.Stands.{ReaderState}
@@ -9,25 +9,44 @@ use Rattle.oas_narrow.specs.WideStart.{WideStart}
 use Rattle.oas_narrow.specs.WideRecord.{WideRecord}
 use Rattle.oas_elements.specs.declared.limits.Limits.{Limits}
 use Rattle.oas_narrow.specs.declared.dropping.Dropping.{Dropping}
+use Rattle.oas_narrow.specs.declared.places.Place.TheVariants.{File}
 use Rattle.oas_narrow.specs.declared.places.Rejection.{Rejection}
 use Rattle.oas_narrow.specs.Preparable.{IsUnitOf, AllPrepared}
 use Rattle.oas_narrow.specs.WideFiles.{WidePrefixOf, inner_in, end_in, head_in}
-use Rattle.oas_narrow.specs.WideRefusal.{WideRefusal}
 use Rattle.oas_narrow.specs.WideRecords.{FailsWide}
 use Rattle.oas_prepare.specs.declared.gathering.Gathered.{Gathered}
 use Rattle.oas_prepare.specs.declared.gathering.Next.{Next}
-use Rattle.oas_prepare.specs.declared.gathering.Next.TheVariants.{Record, End, Block}
+use Rattle.oas_prepare.specs.declared.gathering.Next.TheVariants.{Taken, End, Block}
 use Rattle.oas_prepare.specs.Run.{Stops}
-use Rattle.oas_prepare.specs.Taking.{State, Stands, SameRun}
+use Rattle.oas_prepare.specs.Taking.{State, Stands, SameRun, IsStop, obstacle_next}
 
 -- ---- one record
 
--- a record before END was taken, or END was, or the head of a block, or none of them can be
-abbrev pub ConsumesNext : Bool → Script → Result Next WideRefusal → Script → Type 0
-ConsumesNext in_end old (Ok (Record w)) new = ReadsValue (inner_in in_end) old w new
-ConsumesNext in_end old (Ok (End end)) new = ReadsValue (end_in in_end) old end new
-ConsumesNext in_end old (Ok (Block head)) new = ReadsValue (head_in in_end) old head new
-ConsumesNext in_end old (Err refusal) new = (refusal.at ≡ old.given) × FailsWide in_end old refusal.why new
+-- neither a record nor END can be read
+pub record FailsOne (in_end : Bool) (old : Script) (e : Rejection) (new : Script) : Type 0 where
+  pub place : e.place ≡ File old.given
+  pub fails : FailsWide in_end old e.why new
+
+module _ {C : Type 0} where
+  -- a record before END was read, and this is the result with it
+  pub record HasTakenOne (t : Store C) (in_end : Bool) (old : Script) (first : State C) (new : Script) (p : State C) : Type 0 where
+    pub next : WideRecord
+    pub read : ReadsValue (inner_in in_end) old next new
+    pub taken : (ws : List WideRecord) → Stands t first ws → (obstacle_next first.reader.limits first.dropping ws next ≡ None) × Stands t p (ws ++ next ∷ [])
+    pub same : SameRun first p
+
+  -- a record was read, and isn't prepared
+  pub record StopsOne (t : Store C) (in_end : Bool) (old : Script) (first : State C) (e : Rejection) (new : Script) : Type 0 where
+    pub next : WideRecord
+    pub read : ReadsValue (inner_in in_end) old next new
+    pub stopped : (ws : List WideRecord) → Stands t first ws → IsStop old.given first.reader.limits first.dropping ws next e
+
+  -- the next record was taken, or END was read, or the head of a block; or it isn't prepared, or none of them can be read
+  abbrev pub ConsumesNext : Store C → Bool → Script → State C → Result Next Rejection → Script → State C → Type 0
+  ConsumesNext t in_end old first (Ok Taken) new p = HasTakenOne t in_end old first new p
+  ConsumesNext t in_end old first (Ok (End end)) new p = ReadsValue (end_in in_end) old end new × (p ≡ first)
+  ConsumesNext t in_end old first (Ok (Block head)) new p = ReadsValue (head_in in_end) old head new × (p ≡ first)
+  ConsumesNext t in_end old first (Err e) new p = FailsOne in_end old e new ⊎ StopsOne t in_end old first e new
 
 -- ---- all records
 

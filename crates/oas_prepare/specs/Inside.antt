@@ -14,7 +14,6 @@ use Rattle.oas_narrow.specs.WideEnd.{WideEnd}
 use Rattle.oas_narrow.specs.WideWhy.{WideWhy}
 use Rattle.oas_narrow.specs.WideWhy.TheVariants as wide
 use Rattle.oas_narrow.specs.WideRecord.{WideRecord}
-use Rattle.oas_narrow.specs.WideRecords.{FailsWide}
 use Rattle.oas_narrow.specs.declared.dropping.Dropping.{Dropping}
 use Rattle.oas_narrow.specs.declared.places.Place.{Place}
 use Rattle.oas_narrow.specs.declared.places.Place.TheVariants.{File, Block}
@@ -23,20 +22,22 @@ use Rattle.oas_narrow.specs.Preparable.{AllPrepared}
 use Rattle.oas_narrow.specs.WideFiles.{inner_in, end_in, head_in}
 use Rattle.oas_prepare.specs.Deciding.{decides}
 use Rattle.oas_prepare.specs.DataReasons.{DecidedInData, DecidedBy, run_out_why, why_in}
+use Rattle.oas_prepare.specs.Gathering.{FailsOne, HasTakenOne, StopsOne}
 use Rattle.oas_prepare.specs.Places.{StopsInData, EndsInData, IsVain, at_file}
 use Rattle.oas_prepare.specs.Taking.{State, Stands, SameRun}
 
 -- ---- one record
 
--- none can be read, or there is END or a block, which are not allowed in one
-pub data FailsInside (in_end : Bool) (old : Script) (e : Rejection) (new : Script) : Type 0 where
-  Unread : e.place ≡ File old.given → FailsWide in_end old e.why new → FailsInside in_end old e new
-  EndInside : (end : WideEnd) → e ≡ at_file old.given (wide.Profile (why.OutOfPlace 2)) → ReadsValue (end_in in_end) old end new → FailsInside in_end old e new
-  BlockInside : (head : BlockHead) → e ≡ at_file old.given wide.CblockNested → ReadsValue (head_in in_end) old head new → FailsInside in_end old e new
+-- none can be read, or it isn't prepared, or there is END or a block, which are not allowed in one
+pub data StopsInside {C : Type 0} (t : Store C) (in_end : Bool) (old : Script) (first : State C) (e : Rejection) (new : Script) : Type 0 where
+  Unread : FailsOne in_end old e new → StopsInside t in_end old first e new
+  NotTaken : StopsOne t in_end old first e new → StopsInside t in_end old first e new
+  EndInside : (end : WideEnd) → e ≡ at_file old.given (wide.Profile (why.OutOfPlace 2)) → ReadsValue (end_in in_end) old end new → StopsInside t in_end old first e new
+  BlockInside : (head : BlockHead) → e ≡ at_file old.given wide.CblockNested → ReadsValue (head_in in_end) old head new → StopsInside t in_end old first e new
 
-abbrev pub ReadsInside : Bool → Script → Result WideRecord Rejection → Script → Type 0
-ReadsInside in_end old (Ok w) new = ReadsValue (inner_in in_end) old w new
-ReadsInside in_end old (Err e) new = FailsInside in_end old e new
+abbrev pub ConsumesInside : {C : Type 0} → Store C → Bool → Script → State C → Result (Unit {0}) Rejection → Script → State C → Type 0
+ConsumesInside t in_end old first (Ok done) new p = HasTakenOne t in_end old first new p
+ConsumesInside t in_end old first (Err e) new p = StopsInside t in_end old first e new
 
 -- ---- all records of the data
 

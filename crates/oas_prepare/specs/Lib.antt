@@ -30,9 +30,8 @@ pub mod DataReasons
 pub mod Reasons
 pub mod Run
 pub mod Heads
-pub mod Inside
-pub mod Peeking
 pub mod Gathering
+pub mod Inside
 pub mod Signing
 pub mod Finishing
 pub mod Units

@@ -1,22 +1,23 @@
 //! All records of a file of the standard.
+ghost use Rattle.std.specs.Prelude.{◌≡◌};
 ghost use Rattle.oas_prepare.specs.Gathering.{ConsumesNext, Gathers, GathersFile};
 
 use crate::heads::read_wide_head;
 use crate::inside::take_block;
-use crate::peeking::peek_record;
 use crate::taking::Preparation;
 use oas_canon::find_end_of_input;
 use oas_elements::{Limits, Profile};
 use oas_narrow::{
-    BlockHead, CellStore, Dropping, Reader, Rejection, WideEnd, WideRecord, WideRefusal, WideStart,
+    BlockHead, CellStore, Dropping, Reader, Rejection, WideEnd, WideRecord, WideStart,
 };
 use oas_num::Source;
+use oas_peek::{peek_figure, peek_named, peek_rectangle};
 use std::alloc::Global;
 
-/// What comes next in a file.
+/// What came next in a file.
 pub(crate) enum Next {
-    /// A record before END.
-    Record(WideRecord),
+    /// A record before END, which was taken.
+    Taken,
     End(WideEnd),
     /// What comes before the bytes of a block.
     Block(BlockHead),
@@ -30,23 +31,62 @@ pub(crate) struct Gathered<R> {
     pub(crate) end: WideEnd,
 }
 
-/// Takes the next record: a rectangle, a placement, a text, a polygon or a path at hand the faster way.
-pub(crate) fn take_next<S: Source>(
+/// Takes the next record, which starts at byte `at`. A polygon or a path at hand is read the faster way.
+///
+/// It is a function of its own since whole records are moved here, and a call begins by clearing room for each of them.
+fn take_other<S: Source, C: CellStore>(
     alloc: Global,
     source: &mut S,
     flag_in_end: bool,
-) -> Result<Next, WideRefusal>
-    ensures { ConsumesNext flag_in_end (S.script source.old) result (S.script source.new) }
+    at: u64,
+    preparation: &mut Preparation<Reader<C>>,
+) -> Result<Next, Rejection>
+    requires { at ≡ (S.script source.old).given }
+    ensures { ConsumesNext C.store flag_in_end (S.script source.old) preparation.old result (S.script source.new) preparation.new }
 {
-    if let Some(found) = peek_record(alloc, source.ahead()) {
-        source.skip(found.length);
-        return Ok(Next::Record(WideRecord::Profile(found.next)));
+    if let Some(figure) = peek_figure(alloc, source.ahead()) {
+        source.skip(figure.length);
+        preparation.take_plain(alloc, at, figure.record)?;
+        return Ok(Next::Taken);
     }
     match WideRecord::read(alloc, source, flag_in_end)? {
         WideRecord::End(end) => Ok(Next::End(end)),
         WideRecord::Block(head) => Ok(Next::Block(head)),
-        record => Ok(Next::Record(record)),
+        WideRecord::Profile(record) => {
+            preparation.take_plain(alloc, at, record)?;
+            Ok(Next::Taken)
+        }
+        other => {
+            preparation.take(alloc, at, other)?;
+            Ok(Next::Taken)
+        }
     }
+}
+
+/// The same, where also a rectangle, a placement or a text at hand is read the faster way.
+pub(crate) fn take_next<S: Source, C: CellStore>(
+    alloc: Global,
+    source: &mut S,
+    flag_in_end: bool,
+    at: u64,
+    preparation: &mut Preparation<Reader<C>>,
+) -> Result<Next, Rejection>
+    requires { at ≡ (S.script source.old).given }
+    ensures { ConsumesNext C.store flag_in_end (S.script source.old) preparation.old result (S.script source.new) preparation.new }
+{
+    if let Some(found) = peek_rectangle(source.ahead()) {
+        source.skip(found.length);
+        preparation.take_rectangle(alloc, at, found.rectangle)?;
+        return Ok(Next::Taken);
+    }
+    if let Some(found) = peek_named(source.ahead()) {
+        let length = found.length;
+        let taken = preparation.take_named(at, &found.element);
+        source.skip(length);
+        taken?;
+        return Ok(Next::Taken);
+    }
+    take_other(alloc, source, flag_in_end, at, preparation)
 }
 
 /// Takes the records up to END, and returns END and its offset.
@@ -60,9 +100,9 @@ fn take_records<S: Source, C: CellStore>(
 {
     let mut at = source.at();
     'records: loop {
-        match take_next(alloc, source, head.flag_in_end)? {
+        match take_next(alloc, source, head.flag_in_end, at, preparation)? {
+            Next::Taken => {}
             Next::End(end) => return Ok((at, end)),
-            Next::Record(next) => preparation.take(alloc, at, next)?,
             Next::Block(block) => {
                 take_block(alloc, source, at, block, head.flag_in_end, preparation)?
             }

@@ -3,13 +3,13 @@ ghost use Rattle.std.specs.Prelude.{◌≡◌};
 ghost use Rattle.oas_narrow.specs.BlockEnd.{BlockEnd as End};
 ghost use Rattle.oas_prepare.specs.Places.{at_file};
 ghost use Rattle.oas_prepare.specs.DataReasons.{run_out_why, fault_why};
-ghost use Rattle.oas_prepare.specs.Inside.{ReadsInside, ConsumesData, ConsumesBlock, ended_by, in_block};
+ghost use Rattle.oas_prepare.specs.Inside.{ConsumesInside, ConsumesData, ConsumesBlock, ended_by, in_block};
 
 use crate::gathering::{Next, take_next};
 use crate::taking::Preparation;
 use oas_narrow::{
     BlockEnd, BlockFault, BlockHead, CellStore, Inflated, InflatedSource, Place, Reader, Rejection,
-    WideRecord, WideWhy, read_block,
+    WideWhy, read_block,
 };
 use oas_num::{Source, Why};
 use std::alloc::Global;
@@ -30,17 +30,18 @@ pub(crate) fn stopped(at: u64, why: WideWhy) -> Rejection
     }
 }
 
-/// Reads the next record of a block's data, where neither END nor a block is allowed.
-fn read_inside<S: Source>(
+/// Takes the next record of a block's data, where neither END nor a block is allowed.
+fn take_inside<S: Source, C: CellStore>(
     alloc: Global,
     source: &mut S,
     flag_in_end: bool,
-) -> Result<WideRecord, Rejection>
-    ensures { ReadsInside flag_in_end (S.script source.old) result (S.script source.new) }
+    preparation: &mut Preparation<Reader<C>>,
+) -> Result<(), Rejection>
+    ensures { ConsumesInside C.store flag_in_end (S.script source.old) preparation.old result (S.script source.new) preparation.new }
 {
     let at = source.at();
-    match take_next(alloc, source, flag_in_end)? {
-        Next::Record(next) => Ok(next),
+    match take_next(alloc, source, flag_in_end, at, preparation)? {
+        Next::Taken => Ok(()),
         Next::End(_) => Err(stopped(at, WideWhy::Profile(Why::OutOfPlace(2)))),
         Next::Block(_) => Err(stopped(at, WideWhy::CblockNested)),
     }
@@ -66,8 +67,7 @@ fn take_data<C: CellStore>(
         }
         let pads = source.skip_zeros(RUN_MAX - within % RUN_MAX);
         if pads == 0 {
-            let next = read_inside(alloc, &mut source, flag_in_end)?;
-            preparation.take(alloc, within, next)?;
+            take_inside(alloc, &mut source, flag_in_end, preparation)?;
         }
         last = Some(within);
     }

@@ -27,12 +27,15 @@
 //! # How it is built
 //!
 //! - src/taking.rt: a `Preparation` is a reader, over cells of any kind, and the `Resolver` of oas_trapezoids before it, with
-//!   what is counted; it represents a list of the standard's records (`Stands`).
-//! - src/gathering.rt: the loop over the records. proofs/Fronts.antt, Refusing.antt, Gathered.antt and Ending.antt correspond
-//!   to the files of the same kind in oas_file, whose records are those of the profile.
-//! - src/peeking.rt: a rectangle, a placement, a text, a polygon or a path without a repetition that the source has at hand is
-//!   read by oas_peek, and then its bytes are skipped. What spells a record of the profile spells that record among those of
-//!   the standard (`laws::records` of oas_standard), so it is what the slower read would return (proofs/AtHand.antt).
+//!   what is counted; it represents a list of the standard's records (`Stands`). A record of the profile goes to the reader as
+//!   it is, unless there was a trapezoid or geometry of an extension since the CELL; the resolver then only tracks what it sets
+//!   (proofs/Plain.antt). A placement or a text without a repetition sets nothing that is tracked.
+//! - src/gathering.rt: the loop over the records. A rectangle, a placement, a text, a polygon or a path without a repetition
+//!   that the source has at hand is read by oas_peek, and then its bytes are skipped. What spells a record of the profile
+//!   spells that record among those of the standard (`laws::records` of oas_standard), so it is what the slower read would
+//!   return (proofs/AtHand.antt). As in oas_file, a rectangle, a placement or a text is then no whole record.
+//!   proofs/Fronts.antt, Refusing.antt, Gathered.antt and Ending.antt correspond to the files of the same kind in oas_file,
+//!   whose records are those of the profile.
 //! - src/inside.rt: a block. Its data are read into memory, at most 2^30 bytes of them, and their records are taken from
 //!   there as those of the file are from its source (proofs/Inner.antt and InnerStops.antt). Only a run of PADs is taken at
 //!   once: proofs/Pads.antt says that a PAD changes nothing, Runs.antt where a run begins. Then its place is put before
@@ -51,7 +54,6 @@ mod gathering;
 mod heads;
 mod inside;
 pub mod laws;
-mod peeking;
 mod preparing;
 mod signing;
 mod taking;
@@ -60,7 +62,7 @@ mod units;
 // The crates below, for those above.
 
 pub use oas_canon::{
-    KeptSource, Layout, Limits, PROFILE, Refusal, Sink, SinkFault, SliceSource, Start, Which, Why,
+    KeptSource, Layout, Limits, PROFILE, Refusal, Sink, SinkFault, SliceSource, Which, Why,
     has_canonical_bytes, key, put_canonical, put_cell_keys, put_listing, read_layout,
 };
 pub use oas_narrow::{Dropping, Extra, Place, Rejection, Report, WideWhy};

@@ -13,8 +13,8 @@ use oas_canon::{
     ByProfileOne, ByProfileTwo, CompactCell, KeptBy, Layout, finish_layout, write_canonical,
 };
 use oas_elements::{Limits, Profile};
-use oas_narrow::{Dropping, Place, Reader, Rejection, Report, Start, SummedSource, Sums, WideWhy};
-use oas_num::{Device, Source};
+use oas_narrow::{Dropping, Place, Reader, Rejection, Report, SummedSource, Sums, WideWhy};
+use oas_num::{Device, Source, Start};
 use std::alloc::Global;
 use std::marker::Brand;
 

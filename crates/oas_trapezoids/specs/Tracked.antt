@@ -5,6 +5,7 @@ use Rattle.std.specs.Option.{option_or}
 use Rattle.oas_shape.specs.declared.repetitions.Repetition.{Repetition}
 use Rattle.oas_shape.specs.declared.repetitions.RepField.{RepField}
 use Rattle.oas_shape.specs.Polylines.{Polyline}
+use Rattle.oas_record.specs.declared.rectangles.Rectangle.{Rectangle}
 use Rattle.oas_record.specs.declared.spots.Spot.{Spot}
 use Rattle.oas_record.specs.declared.records.Record.{Record}
 use Rattle.oas_record.specs.declared.records.Record.TheVariants as record_of
@@ -50,6 +51,10 @@ fresh =
 abbrev pub repeated_by : Tracked → Option RepField → Tracked
 repeated_by s field = record s { repetition = option_or (new_repetition field) s.repetition }
 
+-- by what all kinds of geometry give beside the repetition
+abbrev pub placed_by : Tracked → Option ℕ → Option ℕ → Spot → Tracked
+placed_by s layer datatype spot = record s { layer = option_or layer s.layer; datatype = option_or datatype s.datatype; place = place_after s.place spot }
+
 -- by what all kinds of geometry give
 abbrev pub drawn_by : Tracked → Option ℕ → Option ℕ → Spot → Tracked
 drawn_by s layer datatype spot =
@@ -58,6 +63,14 @@ drawn_by s layer datatype spot =
       datatype = option_or datatype s.datatype;
       repetition = option_or (new_repetition spot.repetition) s.repetition;
       place = place_after s.place spot;
+    }
+
+-- by the sizes that a rectangle gives
+abbrev pub sized_by : Tracked → Rectangle → Tracked
+sized_by s r =
+    record s {
+      width = option_or r.width s.width;
+      height = option_or (cond r.square (option_or r.width s.width) r.height) s.height;
     }
 
 -- by the coordinates and the mode that a record gives

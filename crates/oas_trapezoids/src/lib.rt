@@ -12,6 +12,9 @@
 //! - [`Resolver::resolve`] takes the records one after another, and returns which records of the profile each is translated
 //!   to, or why it stops (`translated_by`, specs/Steps.antt). A trapezoid is translated to the polygon of its corners, or to a
 //!   rectangle; geometry of an extension to none, but it sets the modal variables that it gives or moves.
+//! - A caller that has a record of the profile may do the same in two steps, and move no record. [`Resolver::track`], or
+//!   [`Resolver::track_rectangle`] for a rectangle without a repetition, sets what it sets. The record is translated to itself
+//!   as long as [`Resolver::is_mixed`] is false: there was neither a trapezoid nor geometry of an extension since the CELL.
 //! - The modal variables that these records share with others are tracked (`Tracked`, specs/Tracked.antt). From the first of
 //!   them in a cell on, each element is returned with the values of the variables that a reader of the returned records would
 //!   otherwise not have, and at an absolute position. Before it, and in a cell without any, each record is returned

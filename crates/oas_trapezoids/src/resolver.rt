@@ -66,6 +66,14 @@ impl Resolver {
         }
     }
 
+    /// Whether a trapezoid or geometry of an extension was there since the CELL. As long as none was, each record of the
+    /// profile is translated to itself.
+    pub fn is_mixed(&self) -> bool
+        ensures { result ≡ self.now.is_mixed }
+    {
+        self.is_mixed
+    }
+
     /// The records of the profile that the next record is translated to.
     ///
     /// Records that the profile leaves out and that are no elements are translated to none. So are a CBLOCK and END, which

@@ -1,12 +1,12 @@
 //! How records change the modal variables that are tracked.
-ghost use Rattle.std.specs.Prelude.{◌≡◌, OnOk, IfOk};
+ghost use Rattle.std.specs.Prelude.{◌≡◌, None, OnOk, IfOk};
 ghost use Rattle.std.specs.Option.{option_or};
 ghost use Rattle.oas_num.specs.declared.refusals.Why.TheVariants.{Memory};
 ghost use Rattle.oas_record.specs.declared.records.Record.{Record as OneRecord};
 ghost use Rattle.oas_drawing.specs.GivenFields.{given_fields};
 ghost use Rattle.oas_drawing.specs.Values.{new_repetition};
 ghost use Rattle.oas_standard.specs.declared.reasons.WideWhy.TheVariants.{Profile};
-ghost use Rattle.oas_trapezoids.specs.Tracked.{repeated_by, drawn_by, tracked};
+ghost use Rattle.oas_trapezoids.specs.Tracked.{repeated_by, drawn_by, placed_by, sized_by, tracked};
 
 use crate::resolver::Resolver;
 use oas_drawing::Geometry;
@@ -55,6 +55,15 @@ impl Resolver {
         Ok(())
     }
 
+    /// What all kinds of geometry set beside the repetition.
+    fn move_by(&mut self, layer: Option<u64>, datatype: Option<u64>, spot: &Spot)
+        ensures { self.new ≡ placed_by self.old layer datatype spot.now }
+    {
+        set(&mut self.layer, layer);
+        set(&mut self.datatype, datatype);
+        self.place = self.place.after(spot);
+    }
+
     /// What all kinds of geometry set.
     pub(crate) fn draw(
         &mut self,
@@ -66,17 +75,14 @@ impl Resolver {
         ensures { OnOk result (self.new ≡ drawn_by self.old layer datatype spot.now) }
     {
         self.repeat(alloc, &spot.repetition)?;
-        set(&mut self.layer, layer);
-        set(&mut self.datatype, datatype);
-        self.place = self.place.after(spot);
+        self.move_by(layer, datatype, spot);
         Ok(())
     }
 
-    /// What a rectangle sets. A square also sets the height, to its width, which may be the modal one.
-    fn draw_rectangle(&mut self, alloc: Global, drawn: &Rectangle) -> Result<(), AllocError>
-        ensures { OnOk result (self.new ≡ tracked self.old (OneRecord.Rectangle drawn.now)) }
+    /// The sizes that a rectangle sets. A square also sets the height, to its width, which may be the modal one.
+    fn size_by(&mut self, drawn: &Rectangle)
+        ensures { self.new ≡ sized_by self.old drawn.now }
     {
-        self.draw(alloc, drawn.layer, drawn.datatype, &drawn.spot)?;
         set(&mut self.width, drawn.width);
         let height = if drawn.square {
             self.width
@@ -84,7 +90,24 @@ impl Resolver {
             drawn.height
         };
         set(&mut self.height, height);
+    }
+
+    /// What a rectangle sets.
+    fn draw_rectangle(&mut self, alloc: Global, drawn: &Rectangle) -> Result<(), AllocError>
+        ensures { OnOk result (self.new ≡ tracked self.old (OneRecord.Rectangle drawn.now)) }
+    {
+        self.draw(alloc, drawn.layer, drawn.datatype, &drawn.spot)?;
+        self.size_by(drawn);
         Ok(())
+    }
+
+    /// What a rectangle sets that gives no repetition, as [`Resolver::track`] does for its record. This needs no memory.
+    pub fn track_rectangle(&mut self, drawn: &Rectangle)
+        requires { drawn.now.spot.repetition ≡ None }
+        ensures { self.new ≡ tracked self.old (OneRecord.Rectangle drawn.now) }
+    {
+        self.move_by(drawn.layer, drawn.datatype, &drawn.spot);
+        self.size_by(drawn);
     }
 
     /// What a polygon sets.
@@ -108,8 +131,9 @@ impl Resolver {
         }
     }
 
-    /// What a record of the profile sets.
-    pub(crate) fn track(&mut self, alloc: Global, next: &Record) -> Result<(), AllocError>
+    /// What a record of the profile sets: the first half of [`Resolver::resolve`]. The second is to return the record, which is
+    /// unchanged as long as [`Resolver::is_mixed`] is false. Where memory runs out nothing is known about what is tracked.
+    pub fn track(&mut self, alloc: Global, next: &Record) -> Result<(), AllocError>
         ensures { OnOk result (self.new ≡ tracked self.old next.now) }
     {
         match next {

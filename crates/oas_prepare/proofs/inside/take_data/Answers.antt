@@ -2,7 +2,7 @@ use Rattle.std.proofs.Common.{None, sym, subst, ◌∙◌, arith}
 use Rattle.std.proofs.lemmas.Result.{err_from_is_err_and}
 use Rattle.oas_num.specs.Script.{Script}
 use Rattle.oas_prepare.proofs.Inner.{HasSome, some_none, some_all, some_kept, kept_at, some_pads, some_more}
-use Rattle.oas_prepare.proofs.InnerStops.{some_fails, some_stops}
+use Rattle.oas_prepare.proofs.InnerStops.{some_inside}
 use Rattle.oas_prepare.proofs.inside.take_data.Goals as goal
 
 pub records-init : goal.records-init
@@ -15,29 +15,21 @@ records-init g c = record {
 pub returns-then-within-length : goal.returns-then-within-length
 returns-then-within-length g c = λ records stands prepared. some_all (c.records.invariant.some records stands prepared) (sym c.at-within.ensures ∙ c.if-within-length.true ∙ c.len-length.ensures)
 
-pub returns-in_err-next : goal.returns-in_err-next
-returns-in_err-next g c =
+pub returns-in_err-take_inside : goal.returns-in_err-take_inside
+returns-in_err-take_inside g c =
     let p = err_from_is_err_and c.from_residual.result c.from_residual.ensures.1 in
     let none = rw c.if-pads-eq0.true at c.skip_zeros-pads.ensures.takes in
     rw (p.1, p.2) (λ records stands prepared.
-    some_fails (some_kept (c.records.invariant.some records stands prepared) none) (λ e. c.if-within-length.false (kept_at c.at-within.ensures none ∙ e ∙ sym c.len-length.ensures)) _ c.in_err-next.ensures)
+    some_inside (some_kept (c.records.invariant.some records stands prepared) none) (λ e. c.if-within-length.false (kept_at c.at-within.ensures none ∙ e ∙ sym c.len-length.ensures)) _ c.in_err-take_inside.ensures)
 
-pub returns-in_err-take : goal.returns-in_err-take
-returns-in_err-take g c =
-    let p = err_from_is_err_and c.from_residual-in_err-take.result c.from_residual-in_err-take.ensures.1 in
+pub records-preserved-in_ok-take_inside : goal.records-preserved-in_ok-take_inside
+records-preserved-in_ok-take_inside g c =
     let none = rw c.if-pads-eq0.true at c.skip_zeros-pads.ensures.takes in
-    let at = kept_at c.at-within.ensures none in
-    rw (p.1, p.2) (λ records stands prepared.
-    let m = some_kept (c.records.invariant.some records stands prepared) none in
-    some_stops m (λ e. c.if-within-length.false (at ∙ e ∙ sym c.len-length.ensures)) _ at c.in_ok-next.ensures _ (c.in_err-take.ensures.stopped _ m.made.stands))
-
-pub records-preserved-in_ok-take : goal.records-preserved-in_ok-take
-records-preserved-in_ok-take g c =
-    let none = rw c.if-pads-eq0.true at c.skip_zeros-pads.ensures.takes in
+    let o = c.in_ok-take_inside.ensures in
     record {
       some = λ records stands prepared.
           let m = some_kept (c.records.invariant.some records stands prepared) none in
-          some_more m _ (kept_at c.at-within.ensures none) (c.skip_zeros-pads.ensures.stops (omega arith)) c.in_ok-next.ensures _ (c.in_ok-take.ensures.taken _ m.made.stands) c.in_ok-take.ensures.same;
+          some_more m _ (kept_at c.at-within.ensures none) (c.skip_zeros-pads.ensures.stops (omega arith)) o.read _ (o.taken _ m.made.stands) o.same;
     }
 
 pub records-preserved : goal.records-preserved
