@@ -1,12 +1,12 @@
 -- Putting elements.
-use Rattle.std.proofs.Common.{◌≡◌, ℕ, zero, suc, ◌+◌, ◌*◌, ◌-◌, ◌<◌, ◌≤◌, ◌^◌, false, List, [], ◌∷◌, ◌++◌, length, replicate, refl, sym, ap, subst, ◌∙◌, append_assoc, arith}
+use Rattle.std.proofs.Common.{◌≡◌, ℕ, zero, suc, ◌+◌, ◌*◌, ◌-◌, ◌<◌, ◌≤◌, ◌^◌, false, List, [], ◌∷◌, ◌++◌, length, replicate, refl, sym, ap, subst, ◌∙◌, append_assoc, append-nil, arith}
 use Rattle.std.specs.Prelude.{nat_lt, sum_by}
-use Rattle.std.specs.List.{AllByRecursion}
+use Rattle.std.specs.List.{AllByRecursion, repeat}
 use Rattle.std.proofs.lemmas.List.Sums.{sum_by-cons, sum_by-append}
-use Rattle.oas_num.specs.Writing.{PutsPrefix}
+use Rattle.oas_num.specs.Writing.{Puts, PutsPrefix}
 use Rattle.oas_elements.specs.declared.profile.Profile.{Profile}
 use Rattle.oas_elements.specs.declared.element.Element.{Element}
-use Rattle.oas_elements.specs.declared.element.Element.TheVariants.{Path}
+use Rattle.oas_elements.specs.declared.element.Element.TheVariants.{Placement, Text, Rectangle, Polygon, Path, Circle}
 use Rattle.oas_elements.specs.Weight.{weight_of}
 use Rattle.oas_elements.specs.Sound.{IsSound}
 use Rattle.oas_elements.specs.Bag.{items}
@@ -16,6 +16,7 @@ use Rattle.oas_listing.specs.Spelling.{HasPoint}
 use Rattle.oas_listing.specs.Putting.{PutsAll}
 use Rattle.oas_listing.proofs.FileLengths.{length-elements}
 use Rattle.oas_listing.proofs.PuttingLemmas.{PutSoFar, fails_at, part_fits, ◌▸◌}
+use Rattle.oas_writing.proofs.RepeatLemmas.{length-repeat}
 
 elements_bytes-append : (es fs : List Element) → elements_bytes (es ++ fs) ≡ elements_bytes es ++ elements_bytes fs
 elements_bytes-append [] fs = refl
@@ -48,6 +49,37 @@ cells_points profile (c ∷ cs) h = (items_points c.1 h.0.sound, cells_points pr
 
 -- ---- copies of one element
 
+-- its record has a byte
+pub record_some : (e : Element) → 0 < length (element_bytes e)
+record_some (Placement name x y turns flip) = omega arith
+record_some (Text string textlayer texttype x y) = omega arith
+record_some (Rectangle layer datatype width height x y) = omega arith
+record_some (Polygon layer datatype points) = omega arith
+record_some (Path layer datatype half_width start end points) = omega arith
+record_some (Circle layer datatype radius x y) = omega arith
+
+-- copies are its record many times in a row
+copies_bytes : (times : ℕ) (e : Element) → elements_bytes (replicate times e) ≡ repeat times (element_bytes e)
+copies_bytes zero e = refl
+copies_bytes (suc n) e = ap (λ (b : List ℕ). element_bytes e ++ b) (copies_bytes n e)
+
+pub copies_length : (times size : ℕ) (e : Element) → size ≡ length (element_bytes e) → times * size ≡ length (elements_bytes (replicate times e))
+copies_length times size e is = rw is (sym (ap length (copies_bytes times e) ∙ length-repeat times (element_bytes e)))
+
+-- what a batch holds, where some bytes were put into an empty one
+pub batch_is : {failures : List ℕ → ℕ} {bytes old new : List ℕ} → old ≡ [] → Puts (λ b bytes c. c ≡ b ++ bytes) failures old bytes new → new ≡ bytes
+batch_is {bytes = bytes} {old = old} none p = p.after old [] (sym (append-nil old)) ∙ ap (λ (b : List ℕ). b ++ bytes) none
+
+module _ {K : Type 0} {given : K → List ℕ → K → Type 0} {failures : K → ℕ} {old new : K} (e : Element) (times : ℕ) {held : List ℕ} (is : held ≡ element_bytes e) where
+  pub repeats_fail : PutsPrefix given failures old (repeat times held) new → PutsPrefix given failures old (elements_bytes (replicate times e)) new
+  repeats_fail q = rw (copies_bytes times e, ← is) q
+
+  pub repeats_put : {size : ℕ} → size ≡ length (element_bytes e) → Puts given failures old (repeat times held) new → PutsAll given failures old (elements_bytes (replicate times e)) (times * size) new
+  repeats_put {size} same q = record {
+    puts = rw (copies_bytes times e, ← is) q;
+    count_is = copies_length times size e same;
+  }
+
 -- this many copies were put, and the others are left
 pub record CopiesLeft {K : Type 0} (given : K → List ℕ → K → Type 0) (failures : K → ℕ) (e : Element) (times i : ℕ) (old now : K) (count : ℕ) : Type 0 where
   pub so_far : PutSoFar given failures (elements_bytes (replicate times e)) (elements_bytes (replicate (times - i) e)) old now count
@@ -57,6 +89,11 @@ copies_next : (times i : ℕ) (e : Element) → i < times → replicate (times -
 copies_next times i e lt =
     let one : times - i ≡ suc (times - (i + 1)) = omega (arith, lt) in
     ap (λ (n : ℕ). replicate n e) one
+
+-- one of them is no heavier
+pub one_light : (e : Element) (times : ℕ) → 0 < times → sum_by weight_of (replicate times e) ≤ 2 ^ 30 → weight_of e ≤ 2 ^ 30
+one_light e zero some light = absurd (omega arith)
+one_light e (suc n) some light = omega (arith, light, sum_by-cons weight_of e (replicate n e))
 
 -- all of them together
 pub copies_short : (e : Element) (times : ℕ) → IsSound e → sum_by weight_of (replicate times e) ≤ 2 ^ 30 → length (elements_bytes (replicate times e)) ≤ 64 * 2 ^ 30

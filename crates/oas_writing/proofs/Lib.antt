@@ -22,5 +22,6 @@ pub use Rattle.oas_listing.proofs.Written
 pub mod ElementLemmas
 pub mod LayoutForms
 mod PointLemmas
+mod RepeatLemmas
 mod CellLemmas
 mod AloneLemmas

@@ -1,36 +1,17 @@
 //! Cells, each with its elements as often as they are there.
 
-ghost use Rattle.std.specs.Prelude.{◌*◌, ◌≤◌, ◌^◌, replicate, sum_by, IfOk};
+ghost use Rattle.std.specs.Prelude.{◌*◌, ◌≤◌, ◌^◌, IfOk};
 ghost use Rattle.std.specs.List.{AllByRecursion};
 ghost use Rattle.oas_elements.specs.declared.profile.Profile.{Profile as OneProfile};
 ghost use Rattle.oas_elements.specs.Bag.{items};
 ghost use Rattle.oas_elements.specs.Contents.{expanded, IsCell};
 ghost use Rattle.oas_elements.specs.Meaning.{cells_weight};
-ghost use Rattle.oas_elements.specs.Sound.{IsSound};
-ghost use Rattle.oas_elements.specs.Weight.{weight_of};
 ghost use Rattle.oas_listing.specs.Bytes.{elements_bytes, cell_bytes, cells_bytes};
 ghost use Rattle.oas_listing.specs.Putting.{Counts};
 
-use crate::elements::put_element;
-use oas_listing::{Cells, Elements, KeyedElement, put_opening};
+use crate::copies::put_copies;
+use oas_listing::{Cells, Elements, put_opening};
 use oas_num::{Sink, SinkFault};
-
-/// Puts an element this many times.
-fn put_copies<K: Sink>(
-    sink: &mut K,
-    element: &KeyedElement<'_>,
-    times: u64,
-) -> Result<u64, SinkFault>
-    requires sound { IsSound element.now }
-    requires light { sum_by weight_of (replicate times element.now) ≤ 2 ^ 30 }
-    ensures { Counts K.given K.failures sink.old (elements_bytes (replicate times element.now)) result sink.new }
-{
-    let mut count = 0;
-    for _ in 0..times {
-        count += put_element(sink, element)?;
-    }
-    Ok(count)
-}
 
 /// Puts elements, each as often as it is there.
 fn put_elements<K: Sink>(sink: &mut K, elements: Elements<'_>) -> Result<u64, SinkFault>

@@ -16,18 +16,23 @@
 //! # How it is built
 //!
 //! - A layout's cells and elements come in order, each element with its count, so nothing is sorted. Each is read from the keys as
-//!   it is asked for. src/cells.rt, elements.rt and points.rt put them by the parts of a writer of oas_form.
+//!   it is asked for. src/cells.rt, elements.rt and points.rt put them by the parts of a writer of oas_form. Of 8 or more
+//!   equal elements (copies.rt) the record is made once, in a sink of 4 KiB on the stack (batches.rt). It is doubled there, and
+//!   put by as many copies at once as fit.
 //! - The proofs carry oas_form's record `PutSoFar whole left`: a prefix of the whole was put and counted, and this is left. It is
 //!   in the invariants of the loops over points (proofs/PointLemmas.antt), over equal elements and the elements of a cell
 //!   (ElementLemmas.antt), and over cells (CellLemmas.antt). The points of a polygon or a path are read from the key once to be
-//!   counted, and once to be put as steps.
+//!   counted, and once to be put as steps. Copies are one record's bytes many times in a row (std's `repeat`,
+//!   RepeatLemmas.antt), wherever they are cut.
 //! - By oas_form what is written for a layout is its canonical form (proofs/LayoutForms.antt). A cell alone is a layout too
 //!   (AloneLemmas.antt), so the same holds for it.
 //! - src/matching.rt puts the canonical bytes into oas_form's sink that compares, which fails at the first byte that differs.
 #![tactic(auto)]
 
 mod alone;
+mod batches;
 mod cells;
+mod copies;
 mod elements;
 mod matching;
 mod points;

@@ -16,7 +16,7 @@ use oas_num::{Content, Device, Refusal, Sink, SinkFault, write_content};
 /// Puts the canonical bytes of a layout, and returns how many they are. After a fault a prefix of them was put.
 ///
 /// They are a canonical form within the layout's limits, and mean the layout. There are at most 320, plus 64 for each unit of
-/// its weight. It allocates and copies nothing.
+/// its weight. It allocates nothing.
 #[tactic(auto, using(crate::proofs::LayoutForms::layout_form, crate::proofs::LayoutForms::layout_means, crate::proofs::LayoutForms::layout_short))]
 pub fn put_canonical<K: Sink>(layout: &Layout, sink: &mut K) -> Result<u64, SinkFault>
     ensures counts { Counts K.given K.failures sink.old (canonical_bytes (meaning_of layout.now)) result sink.new }

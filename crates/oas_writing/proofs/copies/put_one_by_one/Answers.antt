@@ -1,7 +1,7 @@
 use Rattle.std.proofs.Common.{arith}
 use Rattle.std.proofs.lemmas.Result.{err_from_is_err_and}
 use Rattle.oas_writing.proofs.ElementLemmas.{copies_short, copy_fails, copy_put, copy_within}
-use Rattle.oas_writing.proofs.cells.put_copies.Goals as goal
+use Rattle.oas_writing.proofs.copies.put_one_by_one.Goals as goal
 
 pub returns-in_err-count : goal.returns-in_err-count
 returns-in_err-count g c =
