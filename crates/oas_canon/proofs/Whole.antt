@@ -12,7 +12,8 @@ use Rattle.oas_elements.specs.declared.profile.Profile.{Profile}
 use Rattle.oas_elements.specs.Meaning.{SameLayout}
 use Rattle.oas_elements.specs.Contents.{Contents, IsLayout, meaning_of}
 use Rattle.oas_judge.specs.Acceptance.{Accepted}
-use Rattle.oas_judge.specs.Reading.{decides, IsRead, IsRefused}
+use Rattle.oas_num.specs.Refusing.{decides}
+use Rattle.oas_judge.specs.Reading.{IsRead, IsRefused}
 use Rattle.oas_judge.specs.Bytes.{canonical_bytes}
 use Rattle.oas_judge.specs.Canonical.{CanonicalForm, IsCanonicalOf}
 use Rattle.oas_num.specs.Written.{IsWritten, IsCutOff}

@@ -1,10 +1,10 @@
 //! A sink that hashes.
 ghost use Rattle.std.specs.Prelude.{◌≡◌, ℕ, List, [], ◌∷◌, ◌+◌, ◌≤◌, ◌<◌, length};
 ghost use Rattle.sha2.specs.Sha256.{sha256};
-ghost use Rattle.sha2.specs.Hashers.{Holds256};
+ghost use Rattle.oas_hash.specs.Hashing.{Holds256};
 
+use oas_hash::Sha256;
 use oas_num::{Sink, SinkFault};
-use sha2::{Digest, Sha256};
 
 /// How many bytes are buffered before they are hashed.
 const SIZE: usize = 4096;

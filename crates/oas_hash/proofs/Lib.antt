@@ -1,0 +1,4 @@
+mod WordLemmas
+mod LaneLemmas
+mod ScheduleLemmas
+mod HashingLemmas
