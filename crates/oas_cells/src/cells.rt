@@ -80,6 +80,7 @@ impl<P: KeptBy> CompactCell<P> {
     }
 
     /// Draws an element this many more times, in its kept form.
+    #[inline(always)]
     fn keep(&mut self, element: Element, times: u64) -> Result<(), AllocError>
         requires some { 0 < times }
         requires fit { IsFit (OneNamed element) }
@@ -201,10 +202,16 @@ impl<P: KeptBy> CellStore for CompactCell<P> {
     }
 
     fn rest(&mut self) {
-        self.kept.rest();
-        self.waiting.rest();
+        // What waits is added to the elements later.
+        if self.waiting.is_empty() {
+            self.kept.rest();
+        } else {
+            self.kept.pause();
+            self.waiting.rest();
+        }
     }
 
+    #[inline(always)]
     fn draw(&mut self, drawn: Drawn, times: u64) -> Result<(), AllocError> {
         match named_element(drawn) {
             Ok(element) => self.keep(element, times),
@@ -241,6 +248,7 @@ impl<P: KeptBy> Weighed for CompactCell<P> {
 }
 
 /// The element, where it isn't drawn by a number.
+#[inline(always)]
 fn named_element(drawn: Drawn) -> Result<Element, Drawn>
     ensures named { IfOk result (λ e. drawn ≡ OneNamed e) }
     ensures numbered { IfErr result (λ d. (d ≡ drawn) × (is_named drawn ≡ false)) }

@@ -63,6 +63,7 @@ impl ElementStore {
     }
 
     /// Adds an element in its kept form, this many times. If out of memory it adds nothing.
+    #[inline(always)]
     pub fn add(&mut self, profile: Profile, element: &Element, times: u64) -> Result<(), AllocError>
         requires some { 0 < times }
         requires points { lacks_points element.now ≡ false }
@@ -91,8 +92,21 @@ impl ElementStore {
         }
     }
 
-    /// Takes the memory in which elements are added. If out of memory it changes nothing.
+    /// Takes the memory in which elements are added, where it isn't there yet. If out of memory it changes nothing.
+    #[inline(always)]
     fn open(&mut self) -> Result<(), AllocError>
+        requires { total (λ _. 1) self.old < 2 ^ 64 }
+        ensures { self.new ≡ self.old }
+    {
+        if matches!(self.form, Form::Open(_)) {
+            return Ok(());
+        }
+        self.begin()
+    }
+
+    /// Takes the memory in which elements are added. If out of memory it changes nothing.
+    #[inline(never)]
+    fn begin(&mut self) -> Result<(), AllocError>
         requires { total (λ _. 1) self.old < 2 ^ 64 }
         ensures { self.new ≡ self.old }
     {
@@ -106,6 +120,7 @@ impl ElementStore {
     }
 
     /// Adds an element that the profile may keep in another form, this many times. If out of memory it adds nothing.
+    #[inline(always)]
     fn add_geometry(
         &mut self,
         profile: Profile,
@@ -173,6 +188,15 @@ impl ElementStore {
         match &mut self.form {
             Form::Open(filling) => filling.add_text(string, textlayer, texttype, x, y, times),
             Form::Closed(_) => Err(AllocError),
+        }
+    }
+
+    /// Gives back some memory that is idle until the next element is added, and keeps what adding needs.
+    pub(crate) fn pause(&mut self)
+        ensures { self.new ≡ self.old }
+    {
+        if let Form::Open(filling) = &mut self.form {
+            filling.pause();
         }
     }
 

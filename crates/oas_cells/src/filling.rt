@@ -61,6 +61,7 @@ impl Filling {
     }
 
     /// Adds an element that the profile may keep in another form, this many times. If out of memory it adds nothing.
+    #[inline(always)]
     pub(crate) fn add_geometry(
         &mut self,
         profile: Profile,
@@ -130,6 +131,14 @@ impl Filling {
         Ok(())
     }
 
+    /// Gives back memory that is idle until the next element is added.
+    pub(crate) fn pause(&mut self)
+        ensures { self.new ≡ self.old }
+    {
+        self.key = Vec::new(self.alloc);
+        self.keys.rest();
+    }
+
     /// Takes the keys out, ascending in one block, where they are few. Else, or if out of memory, it only gives back memory that
     /// is idle as long as no element is added.
     pub(crate) fn rest(&mut self) -> Option<Block>
@@ -137,10 +146,9 @@ impl Filling {
         ensures run { IfSome result (λ block. IsRun (slice_cmp nat_cmp) block) }
         ensures none { IfNone result (self.new ≡ self.old) }
     {
-        self.key = Vec::new(self.alloc);
         let few = self.keys.take_few();
         if few.is_none() {
-            self.keys.rest();
+            self.pause();
         }
         few
     }
@@ -158,6 +166,7 @@ impl Filling {
 }
 
 /// Puts the key of an element in its kept form in place of what was there.
+#[inline(always)]
 fn put_kept(
     alloc: Global,
     profile: Profile,

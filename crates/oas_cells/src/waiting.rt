@@ -1,6 +1,6 @@
 //! What is drawn by a number, whose name may come later.
 
-ghost use Rattle.std.specs.Prelude.{◌≡◌, ◌+◌, ◌<◌, ◌^◌, [], unwrap_or, OnOk, OnErr, IfSome};
+ghost use Rattle.std.specs.Prelude.{◌≡◌, ◌+◌, ◌<◌, ◌^◌, [], unwrap_or, OnOk, OnErr, IfSome, IsTrue};
 ghost use Rattle.std.specs.BTreeMap.{get, insert_entry, IsOrdered, IsUnchanged};
 ghost use Rattle.oas_elements.specs.Laws.BagLaws.{total};
 ghost use Rattle.oas_reader.specs.DrawnLaws.{derived_cmp};
@@ -41,6 +41,13 @@ impl Waiting {
         ensures { result ≡ [] }
     {
         Waiting { alloc, queue: None }
+    }
+
+    /// Whether nothing waits. Where memory ran out for the first that came, it may be false too.
+    pub(crate) fn is_empty(&self) -> bool
+        ensures { IsTrue result → self.now ≡ [] }
+    {
+        self.queue.is_none()
     }
 
     /// The bytes of the names of all that waits, capped to 64 bits; None where a number has no name.

@@ -111,6 +111,7 @@ impl ModalVariables {
     }
 
     /// What all kinds of geometry set. A repetition is taken from the record.
+    #[inline(always)]
     pub(crate) fn draw(&mut self, layer: Option<u64>, datatype: Option<u64>, spot: &mut Spot)
         requires { IsNear self.old.geometry }
         ensures { self.new ≡ record self.old {
@@ -128,6 +129,7 @@ impl ModalVariables {
 }
 
 /// A field that is given sets its variable.
+#[inline(always)]
 pub(crate) fn set<T: Copy + Drop>(variable: &mut Option<T>, given: Option<T>)
     ensures { variable.new ≡ option_or given variable.old }
 {
@@ -146,6 +148,7 @@ pub(crate) fn take_given<T: Drop>(variable: &mut Option<T>, given: &mut Option<T
 }
 
 /// A repetition that is given is moved, and sets the variable. Type 0 doesn't.
+#[inline]
 pub(crate) fn take_repetition(variable: &mut Option<Repetition>, given: &mut Option<RepField>)
     ensures { variable.new ≡ option_or (new_repetition given.old) variable.old }
 {

@@ -22,6 +22,7 @@ impl Position {
     }
 
     /// The position of the next element of the class, from the coordinates that it gives.
+    #[inline(always)]
     pub(crate) fn moved_by(&self, relative: bool, spot: &Spot) -> Position
         requires { IsNear self.now }
         ensures { result ≡ moved_by relative self.now spot.now }
@@ -30,6 +31,7 @@ impl Position {
     }
 
     /// The same by these coordinates, each where it is given.
+    #[inline(always)]
     pub(crate) fn moved_to(&self, relative: bool, x: Option<i64>, y: Option<i64>) -> Position
         requires { IsNear self.now }
         ensures { result ≡ record { x = moved relative self.now.x x; y = moved relative self.now.y y } }
@@ -42,6 +44,7 @@ impl Position {
 }
 
 /// An optional coordinate after another: in relative mode that is added to it.
+#[inline(always)]
 fn moved(relative: bool, at: i128, given: Option<i64>) -> i128
     requires { IsWithin at }
     ensures { result ≡ moved relative at given }

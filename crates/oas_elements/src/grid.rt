@@ -13,6 +13,7 @@ const GRID: u64 = 1 << 60;
 impl Element {
     /// Whether all of it is within the grid (own rule): positions, points, far corners of rectangles and extensions from
     /// -2^60 to 2^60, half-widths and radii at most 2^60.
+    #[inline(always)]
     pub fn fits_grid(&self) -> bool
         ensures { result ≡ fits_grid self.now }
     {

@@ -4,32 +4,33 @@ use Rattle.std.proofs.lemmas.List.{append-nil, length-append}
 use Rattle.oas_num.specs.declared.refusals.Why.{Why}
 use Rattle.oas_num.specs.declared.refusals.Why.TheVariants.{TrailingBytes, Read, InputTooLong, Memory}
 use Rattle.oas_num.specs.declared.refusals.Refusal.{Refusal}
-use Rattle.oas_num.specs.Laws.GrammarLaws.{after_same}
 use Rattle.oas_num.specs.Ratio.{Ratio}
 use Rattle.oas_num.specs.Reading.{ReadsValue}
 use Rattle.oas_num.specs.Script.{Script, Consumed, IsAtEnd}
 use Rattle.oas_num.specs.Style.{Any}
-use Rattle.oas_num.proofs.ReadLemmas.{Consumed-then}
+use Rattle.oas_num.proofs.ReadLemmas.{Consumed-then, Consumed-still}
 use Rattle.oas_record.specs.declared.heads.Head.{Head}
 use Rattle.oas_record.specs.declared.records.Record.{Record}
 use Rattle.oas_record.specs.declared.records.Record.TheVariants.{End}
 use Rattle.oas_record.specs.Heads.{head_in}
-use Rattle.oas_record.specs.Records.{record_in}
 use Rattle.oas_elements.specs.declared.limits.Limits.{Limits}
 use Rattle.oas_elements.specs.declared.profile.Profile.{Profile}
 use Rattle.oas_elements.specs.Contents.{Contents, IsLayout, meaning_of}
 use Rattle.oas_elements.specs.Meaning.{Meaning, SameLayout}
 use Rattle.oas_reader.specs.Stores.{Store}
 use Rattle.oas_reader.specs.Stands.{ReaderState, Represents, records_mean, end_refusal}
-use Rattle.oas_file.specs.Files.{Parts, FileOf, PrefixOf}
+use Rattle.oas_file.specs.Files.{Parts, FileOf}
 use Rattle.oas_file.specs.Laws.FileLaws.{PrefixFree-file}
-use Rattle.oas_file.specs.Acceptance.{Allowed}
+use Rattle.oas_file.specs.Acceptance.{Allowed, Accepted}
 use Rattle.oas_file.specs.Deciding.{TheTail, TheWhole, EndingMay, IsReasoned}
 use Rattle.oas_file.specs.Gathering.{HasBegun, HasAll, MissesEnd}
 use Rattle.oas_file.specs.Places.{RefusedAt, AfterLast, ByEnd}
 use Rattle.oas_file.specs.Reading.{IsRead, IsRefused, IsPlaced, Refuses, ReadsLayout}
+use Rattle.oas_num.proofs.PrefixLemmas.{whole_one}
+use Rattle.oas_file.proofs.Fronts.{front_none, file_all}
 use Rattle.oas_file.proofs.Judged.{end_decides}
-use Rattle.oas_file.proofs.Refusing.{Judges, ForMemory, Decided, judged_refused, memory_placed}
+use Rattle.oas_file.proofs.Refusing.{memory_placed}
+use Rattle.oas_num.proofs.RefusingLemmas.{Judges, ForMemory, Decided, judged_refused, StoppedBy, stopped_not, stopped_refused}
 
 -- ---- the head
 
@@ -38,7 +39,7 @@ begun {old = old} read stands = record {
   origin = old;
   bytes = read.bytes;
   takes = read.takes;
-  front = record { start = read.bytes; body = []; begun = read.spelled; each = refl; joined = sym (append-nil read.bytes) };
+  front = front_none read.bytes read.spelled;
   stands = stands;
 }
 
@@ -48,30 +49,11 @@ refuses_within {old = old} {new = new} {refusal = refusal} same r = subst (λ (l
 
 -- ---- after END
 
-pub file_all : {head : Head} {rs : List Record} {bytes last : List ℕ} → PrefixOf head rs bytes → record_in Any head.flag_in_end End last → FileOf head rs (bytes ++ last)
-file_all {last = last} f end = record {
-  spelled = record {
-    front = f.start;
-    back = f.body ++ last;
-    first = f.begun;
-    second = record { front = f.body; back = last; first = f.each; second = record { holds = refl; spelled = end }; joined = refl };
-    joined = ap (λ (c : List ℕ). c ++ last) f.joined ∙ append_assoc f.start f.body last;
-  };
-}
-
--- no file goes on after END
-none_after : {head first : Head} {rs ss : List Record} {bytes last : List ℕ} (byte : ℕ) (more : List ℕ) → PrefixOf head rs bytes → record_in Any head.flag_in_end End last →
-    FileOf first ss ((bytes ++ last) ++ (byte ∷ more)) → ⊥
-none_after {head = head} {first = first} {rs = rs} {ss = ss} {bytes = bytes} {last = last} byte more f end file = absurd (not_nil tails) where
-  tails : byte ∷ more ≡ []
-  tails =
-      let whole = (bytes ++ last) ++ (byte ∷ more) in
-      let e : (bytes ++ last) ++ (byte ∷ more) ≡ whole ++ [] = sym (append-nil whole) in
-      let one = (PrefixFree-file Any).one (head, (rs, End)) (first, (ss, End)) (bytes ++ last) whole (byte ∷ more) [] (file_all f end).spelled file.spelled e in
-      after_same (bytes ++ last) whole (byte ∷ more) [] one.0 e
-
-  not_nil : byte ∷ more ≡ [] → ⊥
-  not_nil e = cc
+-- what goes on with more bytes as a file has none of them more
+none_more : {head first : Head} {rs ss : List Record} {all b : List ℕ} (more : List ℕ) → FileOf head rs all → FileOf first ss b → all ++ more ≡ b → (rs ≡ ss) × (more ≡ [])
+none_more {head = head} {first = first} {rs = rs} {ss = ss} {all = all} {b = b} more f g e =
+    let one = whole_one (PrefixFree-file Any) (head, (rs, End)) (first, (ss, End)) all b more f.spelled g.spelled e in
+    (ap (λ (p : Parts). p.1.0) one.0, one.1)
 
 module _ {C : Type 0} {t : Store C} {old mid : Script} {head : Head} {first s : ReaderState C} {end_at : ℕ} (m : HasAll t old head first end_at mid s) where
   abbrev all : List ℕ
@@ -79,10 +61,7 @@ module _ {C : Type 0} {t : Store C} {old mid : Script} {head : Head} {first s : 
 
   -- no file is a proper prefix of this one
   all_taken : {other : Head} {ss : List Record} (whole rest : List ℕ) → whole ++ rest ≡ all → FileOf other ss whole → rest ≡ []
-  all_taken {other = other} {ss = ss} whole rest e file =
-      let same : whole ++ rest ≡ all ++ [] = e ∙ sym (append-nil all) in
-      let one = (PrefixFree-file Any).one (other, (ss, End)) (head, (m.records, End)) whole all rest [] file.spelled (file_all m.front m.end).spelled same in
-      after_same whole all rest [] one.0 same
+  all_taken whole rest e file = (none_more rest file (file_all m.front m.end) e).1
 
   tail_place : (at : ℕ) → at ≡ mid.given → old.given ≡ 0 → at ≡ length m.bytes + length m.last
   tail_place at is fresh = omega (arith, is, m.takes.given, fresh, length-append m.bytes m.last)
@@ -128,44 +107,21 @@ module _ {C : Type 0} {t : Store C} {old mid : Script} {head : Head} {first s : 
 
   byte_refused : {new : Script} (byte : ℕ) → Consumed mid (byte ∷ []) new → IsRefused first.limits old TrailingBytes new
   byte_refused {new = new} byte takes =
-      judged_refused (all ++ (byte ∷ [])) (Consumed-then old mid new all (byte ∷ []) m.takes takes)
-      (Decided refl (λ more a. none_after byte more m.front m.end (subst (λ (b : List ℕ). FileOf a.head a.records b) (append_assoc all (byte ∷ []) more) a.file)))
+      judged_refused (Consumed-then old mid new all (byte ∷ []) m.takes takes)
+      (Decided refl (λ more a. let none = (none_more (byte ∷ more) (file_all m.front m.end) a.file (sym (append_assoc all (byte ∷ []) more))).1 in cc))
 
-  taken_all : {new : Script} → Consumed mid [] new → Consumed old all new
-  taken_all {new = new} takes = subst (λ (b : List ℕ). Consumed old b new) (append-nil all) (Consumed-then old mid new all [] m.takes takes)
+  -- the source stopped
+  tail_stopped : {new : Script} (at : ℕ) (why : Why) → at ≡ mid.given → Consumed mid [] new → StoppedBy why new → EndingMay why [] → Refuses first.limits old (record { at = at; why = why }) new
+  tail_stopped {new = new} at why is takes stop may = (
+    stopped_refused why all (Consumed-still m.takes takes) stop (λ whole rest e a. all_taken whole rest e a.file),
+    record { bytes = all; takes = Consumed-still m.takes takes; placed = λ fresh of_file. absurd (stopped_not why new stop of_file) },
+    tail_reasoned at why [] is takes may,
+  )
 
   tail_refuses : {new : Script} (at : ℕ) (why : Why) → at ≡ mid.given → MissesEnd mid why new → Refuses first.limits old (record { at = at; why = why }) new
   tail_refuses at TrailingBytes is h = (byte_refused h.0 h.1, byte_placed at h.0 is h.1, tail_reasoned at TrailingBytes (h.0 ∷ []) is h.1 (h.0, refl))
-  tail_refuses at Read is h = (
-    record {
-      bytes = all;
-      takes = taken_all h.0;
-      decided = λ d. absurd cc;
-      cut = λ _ whole rest e a. all_taken whole rest e a.file;
-      truncated = λ e. cc;
-      device = λ _. h.1;
-      too_long =
-          λ e. cc;
-      reading = λ e. cc;
-    },
-    record { bytes = all; takes = taken_all h.0; placed = λ fresh of_file. absurd cc },
-    tail_reasoned at Read [] is h.0 refl,
-  )
-  tail_refuses at InputTooLong is h = (
-    record {
-      bytes = all;
-      takes = taken_all h.0;
-      decided = λ d. absurd cc;
-      cut = λ _ whole rest e a. all_taken whole rest e a.file;
-      truncated = λ e. cc;
-      device = λ e. cc;
-      too_long =
-          λ _. h.1;
-      reading = λ e. cc;
-    },
-    record { bytes = all; takes = taken_all h.0; placed = λ fresh of_file. absurd cc },
-    tail_reasoned at InputTooLong [] is h.0 refl,
-  )
+  tail_refuses at Read is h = tail_stopped at Read is h.0 h.1 refl
+  tail_refuses at InputTooLong is h = tail_stopped at InputTooLong is h.0 h.1 refl
   tail_refuses at _ is h = absurd h
 
   -- the input doesn't end after END
@@ -175,23 +131,18 @@ module _ {C : Type 0} {t : Store C} {old mid : Script} {head : Head} {first s : 
   -- ---- all that was read
 
   module _ {new : Script} (takes : Consumed mid [] new) (at_end : IsAtEnd new) where
-    -- no file that begins like this has other records
-    same_records : {other : Head} {ss : List Record} (more : List ℕ) → FileOf other ss (all ++ more) → m.records ≡ ss
-    same_records {other = other} {ss = ss} more file =
-        let both = (PrefixFree-file Any).one (head, (m.records, End)) (other, (ss, End)) all (all ++ more) more [] (file_all m.front m.end).spelled file.spelled (sym (append-nil (all ++ more))) in
-        ap (λ (p : Parts). p.1.0) both.1
-
-    whole_judged : (why : Why) → (why ≡ Memory) ⊎ (end_refusal first.limits m.records ≡ Some why) → Judges first.limits all why
+    whole_judged : (why : Why) → (why ≡ Memory) ⊎ (end_refusal first.limits m.records ≡ Some why) → Judges (Accepted first.limits) all why
     whole_judged why (inl e) = ForMemory e
     whole_judged why (inr some) = Decided (end_decides first.limits m.records why some) (λ more a.
-        let none : end_refusal first.limits m.records ≡ None = ap (λ (rs : List Record). end_refusal first.limits rs) (same_records more a.file) ∙ a.whole in
+        let same = (none_more more (file_all m.front m.end) a.file refl).0 in
+        let none : end_refusal first.limits m.records ≡ None = ap (λ (rs : List Record). end_refusal first.limits rs) same ∙ a.whole in
         let e = sym none ∙ some in cc)
 
     whole_placed : (at : ℕ) (why : Why) → at ≡ end_at → (why ≡ Memory) ⊎ (end_refusal first.limits m.records ≡ Some why) → IsPlaced first.limits old (record { at = at; why = why }) new
-    whole_placed at why is (inl e) = memory_placed at why all (taken_all takes) e
+    whole_placed at why is (inl e) = memory_placed at why all (Consumed-still m.takes takes) e
     whole_placed at why is (inr some) = record {
       bytes = all;
-      takes = taken_all takes;
+      takes = Consumed-still m.takes takes;
       placed = λ fresh _ more ends.
           let same : all ≡ all ++ more = sym (append-nil all) ∙ ap (λ (c : List ℕ). all ++ c) (sym (ends at_end)) in
           subst (λ (b : List ℕ). RefusedAt first.limits b at) same (ByEnd (record {
@@ -207,7 +158,7 @@ module _ {C : Type 0} {t : Store C} {old mid : Script} {head : Head} {first s : 
     whole_reasoned : (at : ℕ) (why : Why) → at ≡ end_at → (why ≡ Memory) ⊎ (end_refusal first.limits m.records ≡ Some why) → IsReasoned first.limits old (record { at = at; why = why }) new
     whole_reasoned at why is reason = record {
       bytes = all;
-      takes = taken_all takes;
+      takes = Consumed-still m.takes takes;
       decided = λ fresh. TheWhole (record {
         left = m.last;
         head = head;
@@ -222,7 +173,7 @@ module _ {C : Type 0} {t : Store C} {old mid : Script} {head : Head} {first s : 
     whole_refuses : (refusal : Refusal) → (refusal.at ≡ end_at) × ((refusal.why ≡ Memory) ⊎ (end_refusal s.limits m.records ≡ Some refusal.why)) → Refuses first.limits old refusal new
     whole_refuses refusal h =
         let reason = subst (λ (l : Limits). (refusal.why ≡ Memory) ⊎ (end_refusal l m.records ≡ Some refusal.why)) m.taken.same.limits h.1 in
-        (judged_refused all (taken_all takes) (whole_judged refusal.why reason), whole_placed refusal.at refusal.why h.0 reason, whole_reasoned refusal.at refusal.why h.0 reason)
+        (judged_refused (Consumed-still m.takes takes) (whole_judged refusal.why reason), whole_placed refusal.at refusal.why h.0 reason, whole_reasoned refusal.at refusal.why h.0 reason)
 
     same_back : (profile : Profile) (a b : Meaning) → SameLayout profile a b → SameLayout profile b a
     same_back profile a b same = record { unit = sym same.unit; cells = λ name. sym (same.cells name); counts = λ name e. sym (same.counts name e) }
@@ -238,7 +189,7 @@ module _ {C : Type 0} {t : Store C} {old mid : Script} {head : Head} {first s : 
         (kept.unit ∙ unit) there in
         record {
           bytes = all;
-          takes = taken_all takes;
+          takes = Consumed-still m.takes takes;
           ended = at_end;
           accepted = record {
             head = head;

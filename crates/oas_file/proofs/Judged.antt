@@ -1,11 +1,9 @@
 -- Reasons that records are refused for are about the file: none is about the input's end, a device or the memory.
-use Rattle.std.proofs.Common.{◌≡◌, ◌≢◌, ◌⊎◌, inl, inr, ℕ, Bool, true, false, List, [], ◌∷◌, Option, None, Some, IsTrue, cond, reverse, refl, sym, ap, subst, ◌∙◌}
+use Rattle.std.proofs.Common.{◌≡◌, ℕ, Bool, true, false, List, [], ◌∷◌, Option, None, Some, IsTrue, reverse, refl}
 use Rattle.std.specs.Prelude.{◌+◌, ◌*◌, nat_lt, not, is_none, unwrap_or}
 use Rattle.std.specs.Map.{keys_of}
-use Rattle.std.specs.Option.{option_or}
 use Rattle.oas_num.specs.declared.refusals.Why.{Why}
-use Rattle.oas_num.specs.declared.refusals.Why.TheVariants.{Truncated, Read, InputTooLong, Write, Memory, CoordinateRange}
-use Rattle.oas_num.specs.Reading.{is_format, is_cut}
+use Rattle.oas_num.specs.declared.refusals.Why.TheVariants.{CoordinateRange}
 use Rattle.oas_shape.specs.Steps.{still}
 use Rattle.oas_record.specs.declared.records.Record.{Record}
 use Rattle.oas_record.specs.declared.records.Record.TheVariants as record_of
@@ -20,59 +18,12 @@ use Rattle.oas_reader.specs.Names.{is_mixed, numbering_given, is_other, name_of,
 use Rattle.oas_reader.specs.Meaning.{DrawnCell, cells_by_name, lacks_name, has_twice, end_reason, cells_drawn}
 use Rattle.oas_reader.specs.Standing.{Standing, cell_weight, element_reason}
 use Rattle.oas_reader.specs.Stands.{seen, refused_after, refusal, end_refusal}
-use Rattle.oas_file.specs.Reading.{decides, is_of_file}
-
--- ---- what a reason of the bytes isn't
-
-false_not_true : ◌≡◌ {A = Bool} false true → ⊥
-false_not_true e = cc
-
-pub decided_not : (why other : Why) → IsTrue (decides why) → decides other ≡ false → why ≢ other
-decided_not why other is not e = false_not_true (sym not ∙ ap decides (sym e) ∙ is)
-
-pub decided_uncut : (why : Why) → IsTrue (decides why) → IsTrue (is_cut why) → ⊥
-decided_uncut Truncated is cut = absurd cc
-decided_uncut Read is cut = absurd cc
-decided_uncut InputTooLong is cut = absurd cc
-decided_uncut _ is cut = absurd cc
-
-pub decides_format : (why : Why) → IsTrue (decides why) → IsTrue (is_format why)
-decides_format Truncated is = is
-decides_format Read is = is
-decides_format InputTooLong is = is
-decides_format Memory is = is
-decides_format Write is = refl
-decides_format _ is = is
-
-pub format_or_end : (why : Why) → IsTrue (is_of_file why) → IsTrue (is_format why) ⊎ (why ≡ Truncated)
-format_or_end Truncated is = inr refl
-format_or_end Read is = absurd cc
-format_or_end InputTooLong is = absurd cc
-format_or_end Write is = absurd cc
-format_or_end Memory is = absurd cc
-format_or_end _ is = inl refl
-
--- ---- the reasons of records
+use Rattle.oas_num.specs.Refusing.{decides}
+use Rattle.oas_num.proofs.RefusingLemmas.{Reasons, none_in, some_in, if_in, or_in}
 
 -- a reason, if there is one, is about the bytes
-record InBytes (o : Option Why) : Type 0 where
-  decides : (why : Why) → o ≡ Some why → IsTrue (decides why)
-
-none_in : InBytes None
-none_in = record { decides = λ why e. absurd cc }
-
-some_in : (why : Why) → IsTrue (decides why) → InBytes (Some why)
-some_in why is = record { decides = λ other e. subst (λ (w : Why). IsTrue (decides w)) (same why other e) is } where
-  same : (why other : Why) → ◌≡◌ {A = Option Why} (Some why) (Some other) → why ≡ other
-  same why other e = cc
-
-if_in : (test : Bool) (why : Why) (others : Option Why) → IsTrue (decides why) → InBytes others → InBytes (cond test (Some why) others)
-if_in true why others is all = some_in why is
-if_in false why others is all = all
-
-or_in : (one other : Option Why) → InBytes one → InBytes other → InBytes (option_or one other)
-or_in None other p q = q
-or_in (Some why) other p q = p
+abbrev InBytes : Option Why → Type 0
+InBytes = Reasons (λ (why : Why). IsTrue (decides why))
 
 kind_in : (limits : Limits) (count weight : ℕ) (m : ModalState) (kind : Kind) (repeated : Bool) → InBytes (kind_reason limits count weight m kind repeated)
 kind_in limits count weight m kind repeated =
@@ -120,8 +71,8 @@ end_in names strings limits cs =
 
 -- why a record is refused is about the bytes
 pub refusal_decides : (limits : Limits) (rs : List Record) (r : Record) (why : Why) → refusal limits rs r ≡ Some why → IsTrue (decides why)
-refusal_decides limits rs r why e = (record_in limits (reverse rs) r).decides why e
+refusal_decides limits rs r why e = (record_in limits (reverse rs) r).such why e
 
 -- and so is why END refuses them
 pub end_decides : (limits : Limits) (rs : List Record) (why : Why) → end_refusal limits rs ≡ Some why → IsTrue (decides why)
-end_decides limits rs why e = (end_in (named cell_names (reverse rs)) (named text_strings (reverse rs)) limits (cells_drawn elements_at (reverse rs))).decides why e
+end_decides limits rs why e = (end_in (named cell_names (reverse rs)) (named text_strings (reverse rs)) limits (cells_drawn elements_at (reverse rs))).such why e

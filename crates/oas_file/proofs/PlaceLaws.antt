@@ -1,19 +1,21 @@
 -- A file is refused at no more than one place, and at none where it is accepted.
-use Rattle.std.proofs.Common.{◌≡◌, ℕ, ◌+◌, List, [], ◌∷◌, ◌++◌, length, sym, ap, subst, ◌∙◌, append_assoc, arith}
+use Rattle.std.proofs.Common.{◌≡◌, ℕ, ◌+◌, List, [], ◌∷◌, ◌++◌, length, sym, ap, subst, ◌∙◌, arith}
 use Rattle.std.proofs.lemmas.List.{append-nil, append_cancel_left, length-append}
 use Rattle.oas_num.specs.Laws.GrammarLaws.{after_same}
 use Rattle.oas_num.specs.Style.{Any}
 use Rattle.oas_record.specs.declared.heads.Head.{Head}
 use Rattle.oas_record.specs.declared.records.Record.{Record}
 use Rattle.oas_record.specs.declared.records.Record.TheVariants.{End}
-use Rattle.oas_record.specs.Heads.{magic}
+use Rattle.oas_record.specs.Heads.{magic, start_in, head_in}
 use Rattle.oas_record.specs.Records.{record_in}
 use Rattle.oas_record.specs.Laws.RecordLaws.{PrefixFree-record}
 use Rattle.oas_elements.specs.declared.limits.Limits.{Limits}
 use Rattle.oas_file.specs.Files.{PrefixOf}
 use Rattle.oas_file.specs.Acceptance.{Allowed, IsWhole, Accepted}
 use Rattle.oas_file.specs.Places.{AtMagic, AtStart, AtRecord, AfterEnd, AtEnd, ByMagic, ByStart, ByRecord, AfterLast, ByEnd, OnePlace, NoPlace}
-use Rattle.oas_file.proofs.Fronts.{Compared, Same, More, Less, Fronts, fronts, allowed_prefix, not_both, end_by, ended, BeginsFile, head_begins}
+use Rattle.oas_file.specs.Gathering.{inner_in}
+use Rattle.oas_num.proofs.PrefixLemmas.{Compared, Same, More, Less, Fronts, Follows, ByItem, ByEnd, Opens, file_opens}
+use Rattle.oas_file.proofs.Fronts.{allowed_prefix, item_in, last_in, parts, is_last, fronts, goes_on, ended}
 
 same_length : (one other left right : List ℕ) → left ≡ right → one ++ left ≡ other ++ right → length one ≡ length other
 same_length one other left right same e = omega (arith, ap length same, ap length e, length-append one left, length-append other right)
@@ -78,43 +80,39 @@ record SameEnds {limits : Limits} {b : List ℕ} (e f : Ends limits b) : Type 0 
   last : e.last ≡ f.last
   rest : e.rest ≡ f.rest
 
-ends_same : {limits : Limits} {b : List ℕ} (e f : Ends limits b) → SameEnds e f
-ends_same e f = by both.records where
-  both : Fronts e.head f.head e.records f.records (e.last ++ e.rest) (f.last ++ f.rest)
-  both = fronts (e.last ++ e.rest) (f.last ++ f.rest) e.front f.front (sym e.joined ∙ f.joined)
+-- no record before END is END
+not_end : (head : Head) (r : Record) (front last rest more : List ℕ) → inner_in head.flag_in_end r front → record_in Any head.flag_in_end End last → last ++ more ≡ front ++ rest → ⊥
+not_end head r front last rest more p end e = (parts.apart head).apart r End front last rest more p (is_last head.flag_in_end last end) (sym e)
 
-  by : Compared e.head.flag_in_end e.records f.records (e.last ++ e.rest) (f.last ++ f.rest) → SameEnds e f
-  by (Same same lefts) =
-      let one = (PrefixFree-record Any e.head.flag_in_end).one End End e.last f.last e.rest f.rest e.end (end_by both.heads f.end) lefts in
+ends_same : {limits : Limits} {b : List ℕ} (e f : Ends limits b) → SameEnds e f
+ends_same e f = by (goes_on f.last (e.last ++ e.rest) f.rest e.front f.front f.end (sym e.joined ∙ f.joined)).follows where
+  by : Follows (head_in Any) item_in last_in e.head e.records f.records End f.last (e.last ++ e.rest) f.rest → SameEnds e f
+  by (ByEnd same end lefts) =
+      let one = (PrefixFree-record Any e.head.flag_in_end).one End End e.last f.last e.rest f.rest e.end end.spelled lefts in
       record {
         records = same;
         place = same_length e.before f.before (e.last ++ e.rest) (f.last ++ f.rest) lefts (sym e.joined ∙ f.joined);
         last = one.0;
         rest = after_same e.last f.last e.rest f.rest one.0 lefts;
       }
-  by (More r tail front rest is one stands) = absurd (not_both e.head.flag_in_end r front e.last rest e.rest one e.end (sym stands))
-  by (Less r tail front rest is one stands) = absurd (not_both e.head.flag_in_end r front f.last rest f.rest one (end_by both.heads f.end) (sym stands))
+  by (ByItem r tail front rest is one stands) = absurd (not_end e.head r front e.last rest e.rest one e.end stands)
 
 -- a record of another prefix is one by which the records are still allowed
 further : (limits : Limits) (rs ss : List Record) (r : Record) (tail : List Record) → ss ≡ (rs ++ r ∷ []) ++ tail → Allowed limits ss → Allowed limits (rs ++ r ∷ [])
 further limits rs ss r tail is a = allowed_prefix limits (rs ++ r ∷ []) tail (subst (λ (all : List Record). Allowed limits all) is a)
 
 record_not_end : {limits : Limits} {b : List ℕ} {at : ℕ} → AtRecord limits b at → Ends limits b → ⊥
-record_not_end {limits = limits} a e = by both.records where
-  both : Fronts a.head e.head a.records e.records a.left (e.last ++ e.rest)
-  both = fronts a.left (e.last ++ e.rest) a.before.front e.front (sym a.before.joined ∙ e.joined)
-
-  by : Compared a.head.flag_in_end a.records e.records a.left (e.last ++ e.rest) → ⊥
-  by (Same same lefts) = a.no_end e.last e.rest (end_by both.heads e.end) lefts
-  by (More r tail front rest is one stands) = a.no_record.none r front rest (record { spelled = one.spelled; allowed = further limits a.records e.records r tail is e.allowed }) stands
-  by (Less r tail front rest is one stands) = not_both a.head.flag_in_end r front e.last rest e.rest one (end_by both.heads e.end) (sym stands)
+record_not_end {limits = limits} a e = by (goes_on e.last a.left e.rest a.before.front e.front e.end (sym a.before.joined ∙ e.joined)).follows where
+  by : Follows (head_in Any) item_in last_in a.head a.records e.records End e.last a.left e.rest → ⊥
+  by (ByEnd same end lefts) = a.no_end e.last e.rest end.spelled lefts
+  by (ByItem r tail front rest is one stands) = a.no_record.none r front rest (record { spelled = one.spelled; allowed = further limits a.records e.records r tail is e.allowed }) stands
 
 records_same : {limits : Limits} {b : List ℕ} {p q : ℕ} → AtRecord limits b p → AtRecord limits b q → p ≡ q
-records_same {limits = limits} {p = p} {q = q} a c = by both.records where
-  both : Fronts a.head c.head a.records c.records a.left c.left
+records_same {limits = limits} {p = p} {q = q} a c = by both.items where
+  both : Fronts (head_in Any) item_in a.head c.head a.records c.records a.left c.left
   both = fronts a.left c.left a.before.front c.before.front (sym a.before.joined ∙ c.before.joined)
 
-  by : Compared a.head.flag_in_end a.records c.records a.left c.left → p ≡ q
+  by : Compared (item_in a.head) a.records c.records a.left c.left → p ≡ q
   by (Same same lefts) = a.before.place ∙ same_length a.before.before c.before.before a.left c.left lefts (sym a.before.joined ∙ c.before.joined) ∙ sym c.before.place
   by (More r tail front rest is one stands) =
       absurd (a.no_record.none r front rest (record { spelled = one.spelled; allowed = further limits a.records c.records r tail is c.before.allowed }) stands)
@@ -124,20 +122,24 @@ records_same {limits = limits} {p = p} {q = q} a c = by both.records where
 
 -- ---- before the records
 
-front_begins : {head : Head} {rs : List Record} {b before : List ℕ} (left : List ℕ) → PrefixOf head rs before → b ≡ before ++ left → BeginsFile b
-front_begins {head = head} left f e =
-    subst BeginsFile (sym (e ∙ ap (λ (c : List ℕ). c ++ left) f.joined ∙ append_assoc f.start f.body left)) (head_begins head f.start (f.body ++ left) f.begun)
+-- the magic and START are there
+record Begins (b : List ℕ) : Type 0 where
+  head : Head
+  opens : Opens magic (start_in Any) head b
 
-magic_not : {b : List ℕ} {at : ℕ} → AtMagic b at → BeginsFile b → ⊥
-magic_not a f = a.differs (f.start ++ f.rest) f.joined
+front_begins : {head : Head} {rs : List Record} {b before : List ℕ} (left : List ℕ) → PrefixOf head rs before → b ≡ before ++ left → Begins b
+front_begins {head = head} left f e = record { head = head; opens = subst (Opens magic (start_in Any) head) (sym e) (file_opens magic (start_in Any) left f.spelled) }
 
-start_not : {b : List ℕ} {at : ℕ} → AtStart b at → BeginsFile b → ⊥
-start_not a f = a.none.none f.head f.start f.rest f.begun (append_cancel_left magic a.left (f.start ++ f.rest) (sym a.joined ∙ f.joined))
+magic_not : {b : List ℕ} {at : ℕ} → AtMagic b at → Begins b → ⊥
+magic_not a f = let o = f.opens in a.differs (o.front ++ o.rest) o.joined
 
-ends_begin : {limits : Limits} {b : List ℕ} → Ends limits b → BeginsFile b
+start_not : {b : List ℕ} {at : ℕ} → AtStart b at → Begins b → ⊥
+start_not a f = let o = f.opens in a.none.none f.head o.front o.rest o.spelled (append_cancel_left magic a.left (o.front ++ o.rest) (sym a.joined ∙ o.joined))
+
+ends_begin : {limits : Limits} {b : List ℕ} → Ends limits b → Begins b
 ends_begin e = front_begins (e.last ++ e.rest) e.front e.joined
 
-record_begins : {limits : Limits} {b : List ℕ} {at : ℕ} → AtRecord limits b at → BeginsFile b
+record_begins : {limits : Limits} {b : List ℕ} {at : ℕ} → AtRecord limits b at → Begins b
 record_begins a = front_begins a.left a.before.front a.before.joined
 
 module _ {limits : Limits} {b : List ℕ} where

@@ -2,8 +2,8 @@
 use Rattle.std.proofs.Common.{◌≡◌, ℕ, zero, suc, ◌+◌, ◌<◌, ◌≤◌, Bool, List, [], ◌∷◌, ◌++◌, length, Option, None, Some, ◌⊎◌, inl, inr, refl, sym, ap, subst, ◌∙◌, append_assoc, arith}
 use Rattle.std.proofs.lemmas.List.{append-nil, length-append}
 use Rattle.oas_num.specs.declared.refusals.Why.{Why}
-use Rattle.oas_num.specs.Integers.{IsClosed}
 use Rattle.oas_num.specs.Style.{Any}
+use Rattle.oas_num.proofs.IntegerLemmas.{closed_long}
 use Rattle.oas_record.specs.declared.heads.Head.{Head}
 use Rattle.oas_record.specs.declared.records.Record.{Record}
 use Rattle.oas_record.specs.declared.records.Record.TheVariants.{End}
@@ -14,16 +14,11 @@ use Rattle.oas_reader.specs.Stands.{refusal, end_refusal}
 use Rattle.oas_file.specs.Files.{FileOf}
 use Rattle.oas_file.specs.Acceptance.{Accepted}
 use Rattle.oas_file.specs.Places.{IsBefore, RefusedAt, ByMagic, ByStart, ByRecord, AfterLast, ByEnd, SomePlace}
-use Rattle.oas_file.proofs.Ending.{file_all}
-use Rattle.oas_file.proofs.Fronts.{allowed_last, allowed_more, front_more}
+use Rattle.oas_file.proofs.Fronts.{allowed_last, allowed_more, front_none, front_more, file_all}
 use Rattle.oas_record.specs.Found.{Settled, Stands, only, found_exactly}
 use Rattle.oas_file.proofs.FoundRecords.{settled_end, found_record, found_start}
 
 -- ---- a record takes at least one byte
-
-closed_long : (bytes : List ℕ) → IsClosed bytes → 0 < length bytes
-closed_long [] c = absurd c
-closed_long (b ∷ bs) c = omega arith
 
 pub record_long : (in_end : Bool) (r : Record) (bytes : List ℕ) → record_in Any in_end r bytes → 0 < length bytes
 record_long in_end r bytes s =
@@ -120,13 +115,7 @@ module _ (limits : Limits) (b : List ℕ) where
   at_start left e = elim (found_start.find left) [
     | inl s ↦ after_front (length s.rest) {head = s.value} {records = []} (omega arith) (record {
       before = magic ++ s.front;
-      front = record {
-        start = magic ++ s.front;
-        body = [];
-        begun = record { from = (tt, s.value); is = refl; spelled = record { front = magic; back = s.front; first = refl; second = s.spelled; joined = refl } };
-        each = refl;
-        joined = sym (append-nil (magic ++ s.front));
-      };
+      front = front_none (magic ++ s.front) (record { from = (tt, s.value); is = refl; spelled = record { front = magic; back = s.front; first = refl; second = s.spelled; joined = refl } });
       allowed = tt;
       place = refl;
       joined = e ∙ ap (λ (c : List ℕ). magic ++ c) s.joined ∙ sym (append_assoc magic s.front s.rest);

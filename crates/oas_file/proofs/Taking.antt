@@ -27,14 +27,15 @@ use Rattle.oas_reader.specs.Standing.{MayRunOut}
 use Rattle.oas_reader.specs.Stores.{Store}
 use Rattle.oas_reader.specs.Stands.{ReaderState, Represents, refusal as refusal_of}
 use Rattle.oas_file.specs.Files.{PrefixOf}
-use Rattle.oas_file.specs.Acceptance.{Allowed}
+use Rattle.oas_file.specs.Acceptance.{Allowed, Accepted}
 use Rattle.oas_file.specs.Deciding.{TheNext, IsReasoned}
 use Rattle.oas_file.specs.Gathering.{inner_in, HasBegun, HasGathered, HasAll, HasTakenOne, RefusesOne}
 use Rattle.oas_file.specs.Places.{ByRecord}
 use Rattle.oas_file.specs.Reading.{IsPlaced, Refuses}
 use Rattle.oas_file.proofs.Fronts.{allowed_last, allowed_more, prefix_allowed, front_more}
 use Rattle.oas_file.proofs.Judged.{refusal_decides}
-use Rattle.oas_file.proofs.Refusing.{record_refuses, Judges, ForMemory, Decided, judged_refused, memory_placed}
+use Rattle.oas_file.proofs.Refusing.{record_refuses, memory_placed}
+use Rattle.oas_num.proofs.RefusingLemmas.{Judges, ForMemory, Decided, judged_refused}
 
 pub gathered_none : {C : Type 0} {t : Store C} {head : Head} {now : Script} {first : ReaderState C} (b : HasBegun t head now first) → HasGathered t b.origin head first now first
 gathered_none b = record {
@@ -119,8 +120,8 @@ module _ {C : Type 0} {t : Store C} {origin mid new : Script} {head : Head} {fir
     }
 
     next_refuses : (refusal : Refusal) → refusal.at ≡ mid.given → Reasons first.limits refusal.why → Refuses first.limits origin refusal new
-    next_refuses refusal at reason = (judged_refused (m.bytes ++ read.bytes) both (judged reason), next_placed refusal.at refusal.why at reason, next_reasoned refusal.at refusal.why at reason) where
-      judged : Reasons first.limits refusal.why → Judges first.limits (m.bytes ++ read.bytes) refusal.why
+    next_refuses refusal at reason = (judged_refused both (judged reason), next_placed refusal.at refusal.why at reason, next_reasoned refusal.at refusal.why at reason) where
+      judged : Reasons first.limits refusal.why → Judges (Accepted first.limits) (m.bytes ++ read.bytes) refusal.why
       judged (inl e) = ForMemory e.0
       judged (inr some) = Decided (refusal_decides first.limits m.records r refusal.why some) (λ more a. not_allowed refusal.why some (prefix_allowed more front a))
 

@@ -1,5 +1,5 @@
 -- What a file is: its head, its records and END, spelled in a style (SEMI P39, OASIS file).
-use Rattle.std.specs.Prelude.{◌≡◌, ℕ, List, ◌++◌}
+use Rattle.std.specs.Prelude.{◌≡◌, ℕ, List}
 use Rattle.oas_num.specs.Grammar.{IsPair, IsSuch, IsEach}
 use Rattle.oas_num.specs.Style.{Style, Any}
 use Rattle.oas_record.specs.declared.heads.Head.{Head}
@@ -24,11 +24,7 @@ FileOf head rs bytes = FileIn Any head rs bytes
 
 -- the bytes are a prefix of a file: the magic, START and these records
 pub record PrefixOf (head : Head) (rs : List Record) (bytes : List ℕ) : Type 0 where
-  pub start : List ℕ
-  pub body : List ℕ
-  pub begun : head_in Any head start
-  pub each : IsEach (IsSuch IsInner (record_in Any head.flag_in_end)) rs body
-  pub joined : bytes ≡ start ++ body
+  pub spelled : IsPair (head_in Any) (λ head. IsEach (IsSuch IsInner (record_in Any head.flag_in_end))) (head, rs) bytes
 
 -- one byte list has at most one START and one list of records
 abbrev pub OneReading : Type 0

@@ -1,10 +1,9 @@
 -- What reading a layout from a source does.
-use Rattle.std.specs.Prelude.{◌≡◌, ◌≢◌, ℕ, Bool, true, false, List, [], ◌++◌, Result, Ok, Err, IsTrue}
+use Rattle.std.specs.Prelude.{◌≡◌, ℕ, List, [], ◌++◌, Result, Ok, Err, IsTrue}
 use Rattle.oas_num.specs.declared.refusals.Why.{Why}
 use Rattle.oas_num.specs.declared.refusals.Refusal.{Refusal}
-use Rattle.oas_num.specs.declared.refusals.Why.TheVariants.{Truncated, Read, InputTooLong, Write, Memory}
-use Rattle.oas_num.specs.Script.{Script, Consumed, IsAtEnd, HasFailed, IsTooLong}
-use Rattle.oas_num.specs.Reading.{is_cut}
+use Rattle.oas_num.specs.Script.{Script, Consumed, IsAtEnd}
+use Rattle.oas_num.specs.Refusing.{is_of_file, IsRefusedBy}
 use Rattle.oas_elements.specs.declared.limits.Limits.{Limits}
 use Rattle.oas_elements.specs.declared.profile.Profile.{Profile}
 use Rattle.oas_elements.specs.Meaning.{Meaning, SameLayout}
@@ -12,23 +11,6 @@ use Rattle.oas_elements.specs.Contents.{Contents, IsLayout, meaning_of}
 use Rattle.oas_file.specs.Acceptance.{Accepted, Means}
 use Rattle.oas_file.specs.Places.{RefusedAt}
 use Rattle.oas_file.specs.Deciding.{IsReasoned}
-
--- The bytes decided, and not the source's end, a device or the memory.
-abbrev pub decides : Why → Bool
-decides Truncated = false
-decides Read = false
-decides InputTooLong = false
-decides Write = false
-decides Memory = false
-decides _ = true
-
--- the reason is about the file, and not about a device, a limit of the source, or the memory
-abbrev pub is_of_file : Why → Bool
-is_of_file Read = false
-is_of_file InputTooLong = false
-is_of_file Write = false
-is_of_file Memory = false
-is_of_file _ = true
 
 -- All that the source gave is an accepted file, and this is its layout: the same as the file's meaning, its cells by
 -- ascending names, one of each name, and the elements of each ascending in the form that the profile keeps. So there is only
@@ -47,15 +29,8 @@ pub record IsRead (limits : Limits) (profile : Profile) (old : Script) (l : Cont
 
 -- No accepted file begins with what was taken, or the source has ended and what was taken is none, or a device or the memory
 -- failed. Where the input was cut off, no accepted file goes on from what was taken.
-pub record IsRefused (limits : Limits) (old : Script) (why : Why) (new : Script) : Type 0 where
-  pub bytes : List ℕ
-  pub takes : Consumed old bytes new
-  pub decided : IsTrue (decides why) → (more : List ℕ) → Accepted limits (bytes ++ more) → ⊥
-  pub cut : IsTrue (is_cut why) → (front rest : List ℕ) → front ++ rest ≡ bytes → Accepted limits front → rest ≡ []
-  pub truncated : why ≡ Truncated → (Accepted limits bytes → ⊥) × IsAtEnd new
-  pub device : why ≡ Read → HasFailed new
-  pub too_long : why ≡ InputTooLong → IsTooLong new
-  pub reading : why ≢ Write
+abbrev pub IsRefused : Limits → Script → Why → Script → Type 0
+IsRefused limits old why new = IsRefusedBy (Accepted limits) old why new
 
 -- Where the source had given nothing before: the refusal's offset is a place at which each file is refused that continues
 -- what was taken; where the source has ended, nothing continues it.

@@ -36,10 +36,10 @@
 //! | Reading | what reading a layout does |
 //! | Gathering | what its parts do: one record, all records, the end of the input |
 //!
-//! src/reading.rt is all of the code: each record goes by value to a `Reader` of oas_reader until END (`take_next`; oas_peek
-//! reads a rectangle, a placement, a text, a polygon or a path at hand faster), and then comes the end of the input. A crate
-//! above reads START before (oas_record), and decides END after: so a byte after END is refused before what END itself
-//! refuses.
+//! src/reading.rt is all of the code: each record goes by value to a `Reader` of oas_reader until END (`take_next`), and then
+//! comes the end of the input. oas_peek reads a rectangle, a placement, a text, a polygon or a path at hand faster; the id of
+//! the record says which of these to try. A crate above reads START before (oas_record), and decides END after: so a byte
+//! after END is refused before what END itself refuses.
 //!
 //! How the proof goes.
 //!
@@ -49,13 +49,14 @@
 //!    is about the whole file.
 //! 2. *Two prefixes of one file compare* (`fronts`, proofs/Fronts.antt): they have one START, and their records are the same,
 //!    or one list goes on with a record where the other has ended. This is the one lemma on how a file goes on, and follows
-//!    from "no record is a prefix of another". From it follow that after a prefix of a file comes another of its records or
-//!    END (`file_expects`), and that the records of an accepted file's prefix are allowed (`prefix_allowed`).
-//! 3. *A read that fails refuses the file* (`read_refused`, proofs/Refusing.antt), in the magic, in START and in a record
-//!    alike: what a file requires there couldn't be read, and what fits nothing there fits no file (`Wants` of oas_num). What
-//!    was read and isn't accepted is refused out of memory, or so that no accepted file goes on like this (`judged_refused`).
-//!    For each reason in oas_reader's definitions proofs/Judged.antt shows that it isn't about the input's end, the device or
-//!    the memory.
+//!    from "no record is a prefix of another". It holds of files of any kind, and is proved for these in oas_num
+//!    (proofs/PrefixLemmas.antt); so is what follows from it: after a prefix of a file comes another of its records or END
+//!    (`file_expects`), and the records of an accepted file's prefix are allowed (`prefix_allowed`).
+//! 3. *A read that fails refuses the file* (`read_refused` of oas_num, proofs/Refusing.antt), in the magic, in START and in a
+//!    record alike: what a file requires there couldn't be read, and what fits nothing there fits no file (`Wants` of
+//!    oas_num). What was read and isn't accepted is refused out of memory, or so that no accepted file goes on like this
+//!    (`judged_refused` of oas_num). For each reason in oas_reader's definitions proofs/Judged.antt shows that it isn't about
+//!    the input's end, the device or the memory.
 //! 4. *Three facts at once.* In each situation the refusal, its place and what decided it are one triple (`Refuses`):
 //!    `head_refuses`, `record_refuses`, `gather_refuses` (proofs/Taking.antt), `not_ended` and `finished`
 //!    (proofs/Ending.antt). Where the source has ended, no bytes follow: this gives the place of a file that is cut off, and

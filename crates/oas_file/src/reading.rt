@@ -1,9 +1,10 @@
 //! From a source to a reader: one record, all records, and the end of the input.
-ghost use Rattle.std.specs.Prelude.{◌≡◌};
+ghost use Rattle.std.specs.Prelude.{◌≡◌, Bool};
+ghost use Rattle.oas_peek.specs.Peeked.{IsPeeked};
 ghost use Rattle.oas_file.specs.Gathering.{ConsumesNext, ConsumesOne, Gathers, FindsEnd};
 
 use oas_num::{Refusal, Source, SourceFault, Why};
-use oas_peek::{peek_figure, peek_named, peek_rectangle};
+use oas_peek::{PeekedRectangle, peek_figure, peek_full_rectangle, peek_named, peek_rectangle};
 use oas_reader::{CellStore, Reader};
 use oas_record::{Head, Record};
 use std::alloc::Global;
@@ -26,6 +27,7 @@ pub fn take_record<S: Source>(
 /// hand is read the faster way.
 ///
 /// It is a function of its own since whole records are moved here, and a call begins by clearing room for each of them.
+#[inline(never)]
 fn take_other<S: Source, C: CellStore>(
     alloc: Global,
     source: &mut S,
@@ -48,8 +50,26 @@ fn take_other<S: Source, C: CellStore>(
     Ok(true)
 }
 
-/// The same, where also a rectangle, a placement or a text at hand is read the faster way.
-fn take_next<S: Source, C: CellStore>(
+/// Gives the reader this rectangle, which is at hand and starts at byte `at`, and returns true.
+#[inline(always)]
+fn take_found<S: Source, C: CellStore>(
+    source: &mut S,
+    at: u64,
+    found: PeekedRectangle,
+    reader: &mut Reader<C>,
+) -> Result<bool, Refusal>
+    requires place { at ≡ (S.script source.old).given }
+    requires found { IsPeeked (S.at_hand source.old) found }
+    ensures { (flag_in_end : Bool) → ConsumesOne C.store flag_in_end (S.script source.old) reader.old result (S.script source.new) reader.new }
+{
+    source.skip(found.length);
+    reader.take_rectangle(at, found.rectangle)?;
+    Ok(true)
+}
+
+/// The same as [`take_other`], where also a rectangle at hand is read the faster way.
+#[inline(never)]
+fn take_rectangle<S: Source, C: CellStore>(
     alloc: Global,
     source: &mut S,
     flag_in_end: bool,
@@ -60,10 +80,23 @@ fn take_next<S: Source, C: CellStore>(
     ensures { ConsumesOne C.store flag_in_end (S.script source.old) reader.old result (S.script source.new) reader.new }
 {
     if let Some(found) = peek_rectangle(source.ahead()) {
-        source.skip(found.length);
-        reader.take_rectangle(at, found.rectangle)?;
-        return Ok(true);
+        return take_found(source, at, found, reader);
     }
+    take_other(alloc, source, flag_in_end, at, reader)
+}
+
+/// The same as [`take_other`], where also a placement or a text at hand is read the faster way.
+#[inline(never)]
+fn take_named<S: Source, C: CellStore>(
+    alloc: Global,
+    source: &mut S,
+    flag_in_end: bool,
+    at: u64,
+    reader: &mut Reader<C>,
+) -> Result<bool, Refusal>
+    requires { at ≡ (S.script source.old).given }
+    ensures { ConsumesOne C.store flag_in_end (S.script source.old) reader.old result (S.script source.new) reader.new }
+{
     if let Some(found) = peek_named(source.ahead()) {
         let length = found.length;
         let taken = reader.take_named(at, &found.element);
@@ -72,6 +105,29 @@ fn take_next<S: Source, C: CellStore>(
         return Ok(true);
     }
     take_other(alloc, source, flag_in_end, at, reader)
+}
+
+/// The same, by the faster way of its kind. A rectangle at hand that gives all its fields is taken here, with no test for any of
+/// them.
+#[inline(always)]
+fn take_next<S: Source, C: CellStore>(
+    alloc: Global,
+    source: &mut S,
+    flag_in_end: bool,
+    at: u64,
+    reader: &mut Reader<C>,
+) -> Result<bool, Refusal>
+    requires { at ≡ (S.script source.old).given }
+    ensures { ConsumesOne C.store flag_in_end (S.script source.old) reader.old result (S.script source.new) reader.new }
+{
+    if let Some(found) = peek_full_rectangle(source.ahead()) {
+        return take_found(source, at, found, reader);
+    }
+    match source.ahead() {
+        [20, ..] => take_rectangle(alloc, source, flag_in_end, at, reader),
+        [17 | 19, ..] => take_named(alloc, source, flag_in_end, at, reader),
+        _ => take_other(alloc, source, flag_in_end, at, reader),
+    }
 }
 
 /// Gives the reader the records up to END, and returns END's offset.

@@ -1,5 +1,5 @@
-//! The latest element of a cell, compared with the placement or the text that comes next, and overwritten with it in its own
-//! memory.
+//! The latest element of a cell, compared with the one that comes next; where that is a placement or a text, it is overwritten
+//! in its own memory.
 ghost use Rattle.std.specs.Prelude.{◌≡◌, true, false, IfSome};
 ghost use Rattle.oas_num.specs.Texts.{IsName, IsLabel};
 ghost use Rattle.oas_elements.specs.declared.element.Element.TheVariants.{Placement, Text};
@@ -8,7 +8,44 @@ ghost use Rattle.oas_elements.specs.Element.{element_cmp};
 use oas_elements::{Element, Turns};
 use std::cmp::Ordering;
 
+/// How two elements compare. Most elements are rectangles, so two of these are compared here, where their fields are at hand.
+#[inline(always)]
+pub(crate) fn element_order(last: &Element, next: &Element) -> Ordering
+    ensures { result ≡ element_cmp last.now next.now }
+{
+    match (last, next) {
+        (
+            Element::Rectangle {
+                layer,
+                datatype,
+                width,
+                height,
+                x,
+                y,
+            },
+            Element::Rectangle {
+                layer: next_layer,
+                datatype: next_datatype,
+                width: next_width,
+                height: next_height,
+                x: next_x,
+                y: next_y,
+            },
+        ) => {
+            let there = x.cmp(next_x).then(y.cmp(next_y));
+            let sized = width
+                .cmp(next_width)
+                .then(height.cmp(next_height).then(there));
+            layer
+                .cmp(next_layer)
+                .then(datatype.cmp(next_datatype).then(sized))
+        }
+        _ => last.cmp(next),
+    }
+}
+
 /// How an element compares with a placement of the cell with this name; None where it is no placement.
+#[inline(always)]
 pub(crate) fn placement_order(
     last: &Element,
     name: &[u8],
@@ -34,6 +71,7 @@ pub(crate) fn placement_order(
 }
 
 /// How an element compares with a text with this string; None where it is no text.
+#[inline(always)]
 pub(crate) fn text_order(
     last: &Element,
     string: &[u8],
@@ -61,6 +99,7 @@ pub(crate) fn text_order(
 
 /// Overwrites an element with the placement of the cell with this name there, in its own memory, and returns whether it did.
 /// It is unchanged where it is no placement, or if out of memory.
+#[inline(always)]
 pub(crate) fn place_over(
     last: Element,
     name: &[u8],
@@ -105,6 +144,7 @@ pub(crate) fn place_over(
 
 /// Overwrites an element with the text with this string there, in its own memory, and returns whether it did. It is unchanged
 /// where it is no text, or if out of memory.
+#[inline(always)]
 pub(crate) fn write_over(
     last: Element,
     string: &[u8],

@@ -14,7 +14,7 @@ ghost use Rattle.oas_form.specs.Judging.{IsAbove, IsNotBelow, Stands, GoesOn, Go
 
 use crate::comparing::Comparer;
 use crate::elements::put_element;
-use crate::following::{place_over, placement_order, text_order, write_over};
+use crate::following::{element_order, place_over, placement_order, text_order, write_over};
 use crate::frames::{put_end, put_head, put_opening};
 use oas_elements::{Element, Turns};
 use oas_num::{Fraction, Name};
@@ -31,12 +31,13 @@ fn is_above(before: &Option<Name>, name: &Name) -> bool
 }
 
 /// Whether an element isn't below the one before it.
+#[inline(always)]
 fn is_not_below(before: &Option<Element>, element: &Element) -> bool
     ensures { IsTrue result ↔ IsNotBelow before.now element.now }
 {
     match before {
         None => true,
-        Some(before) => !before.cmp(element).is_gt(),
+        Some(before) => !element_order(before, element).is_gt(),
     }
 }
 
@@ -130,6 +131,7 @@ impl FormJudge {
     }
 
     /// Judges a record that draws one element, from its kept form, where its canonical bytes were read.
+    #[inline(always)]
     pub fn draw_spelled(&mut self, element: Element)
         ensures { (bytes : List ℕ) → element_bytes element ≡ bytes → GoesOnDrawing self.old element bytes self.new }
     {
@@ -139,6 +141,7 @@ impl FormJudge {
 
     /// Judges a placement of the cell with this name, if the bytes of its record are the canonical ones. It returns false,
     /// and does nothing, where the latest element is no placement, or if out of memory.
+    #[inline(always)]
     pub fn place_next(&mut self, name: &[u8], at: (i64, i64), turns: Turns, flip: bool) -> bool
         requires { IsName name.now }
         ensures no { result ≡ false → self.new ≡ self.old }
@@ -163,6 +166,7 @@ impl FormJudge {
 
     /// Judges a text with this string, if the bytes of its record are the canonical ones. It returns false, and does nothing,
     /// where the latest element is no text, or if out of memory.
+    #[inline(always)]
     pub fn write_next(&mut self, string: &[u8], layers: (u64, u64), at: (i64, i64)) -> bool
         requires { IsLabel string.now }
         ensures no { result ≡ false → self.new ≡ self.old }
@@ -202,6 +206,7 @@ impl FormJudge {
 
     /// Whether a canonical file may have an element next, given how it compares with the latest one, if it is spelled
     /// canonically.
+    #[inline(always)]
     fn may_go_on(&self, order: Ordering) -> bool
         ensures { IsTrue result ↔ (IsTrue self.now.holds × (is_gt order ≡ false)) }
     {
@@ -209,6 +214,7 @@ impl FormJudge {
     }
 
     /// Whether a canonical file may have this element next, if it is spelled canonically.
+    #[inline(always)]
     fn may_follow(&self, element: &Element) -> bool
         ensures { IsTrue result ↔ (IsTrue self.now.holds × IsNotBelow self.now.element element.now) }
     {

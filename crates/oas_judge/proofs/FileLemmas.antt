@@ -1,11 +1,10 @@
 -- A whole file: it is accepted, and the judge says whether it is a canonical form.
 use Rattle.std.proofs.Common.{◌≡◌, ◌↔◌, ℕ, Bool, true, false, IsTrue, List, [], ◌++◌, Option, None, Some, is_some, IfSome, Result, Ok, Err, IfOk, OnOk, refl, sym, ap, subst, ◌∙◌, append_assoc}
 use Rattle.std.specs.Prelude.{◌&&◌, unwrap_or}
-use Rattle.std.proofs.lemmas.List.{append-nil}
 use Rattle.oas_num.specs.declared.refusals.Refusal.{Refusal}
 use Rattle.oas_num.specs.Ratio.{Ratio}
 use Rattle.oas_num.specs.Script.{Script, Consumed, IsAtEnd}
-use Rattle.oas_num.proofs.ReadLemmas.{Consumed-then}
+use Rattle.oas_num.proofs.ReadLemmas.{Consumed-still}
 use Rattle.oas_record.specs.declared.heads.Head.{Head}
 use Rattle.oas_elements.specs.declared.limits.Limits.{Limits}
 use Rattle.oas_elements.specs.declared.profile.Profile.{Profile}
@@ -16,7 +15,7 @@ use Rattle.oas_writing.specs.Stands.{ReaderState, Represents, records_mean, end_
 use Rattle.oas_writing.specs.Acceptance.{Allowed, Accepted}
 use Rattle.oas_writing.specs.Files.{FileOf}
 use Rattle.oas_writing.specs.Gathering.{HasAll}
-use Rattle.oas_writing.proofs.Ending.{file_all}
+use Rattle.oas_writing.proofs.Fronts.{file_all}
 use Rattle.oas_writing.specs.Canonical.{CanonicalForm}
 use Rattle.oas_writing.specs.Judging.{entry_records, entry_bytes, IsReadAs}
 use Rattle.oas_writing.proofs.JudgeBytes.{bytes_judge}
@@ -55,12 +54,11 @@ kept_within {old = old} {new = new} {refusal = refusal} same r = subst (λ (l : 
 -- nothing follows END
 pub seen_to_end : {C : Type 0} {t : Store C} {profile : Profile} {head : Head} {start : List ℕ} {origin mid new : Script} {first s : ReaderState C} {k : FileJudge} {at : ℕ} (known : Option Bool) →
     ((m : HasSeenAll t profile head start origin first at mid s k) × IfSome known (Decides k m.last)) → Consumed mid [] new → (m : HasSeenAll t profile head start origin first at new s k) × IfSome known (Decides k m.last)
-seen_to_end {start = start} {origin = origin} {mid = mid} {new = new} known all takes = let m = all.0 in (
+seen_to_end known all takes = let m = all.0 in (
   record {
     entries = m.entries;
     last = m.last;
-    takes = subst (λ (bytes : List ℕ). Consumed origin bytes new) (append-nil ((start ++ entry_bytes m.entries) ++ m.last))
-        (Consumed-then origin mid new ((start ++ entry_bytes m.entries) ++ m.last) [] m.takes takes);
+    takes = Consumed-still m.takes takes;
     each = m.each;
     end = m.end;
     place = m.place;
@@ -125,8 +123,7 @@ module _ {C : Type 0} {t : Store C} {profile : Profile} {head : Head} {now mid :
     -- nothing follows it
     module _ {new : Script} (takes : Consumed mid [] new) (ended : IsAtEnd new) where
       all_taken : Consumed b.origin ((b.begun.start ++ entry_bytes m.entries) ++ m.last) new
-      all_taken = subst (λ (bytes : List ℕ). Consumed b.origin bytes new) (append-nil ((b.begun.start ++ entry_bytes m.entries) ++ m.last))
-          (Consumed-then b.origin mid new ((b.begun.start ++ entry_bytes m.entries) ++ m.last) [] m.takes takes)
+      all_taken = Consumed-still m.takes takes
 
       pub judged : (answer : Bool) → Decides k m.last answer → IsJudged limits profile b.origin answer new
       judged answer decides = record { bytes = (b.begun.start ++ entry_bytes m.entries) ++ m.last; takes = all_taken; ended = ended; accepted = accepted; answer = told answer decides }

@@ -19,7 +19,8 @@ use Rattle.oas_writing.specs.Reading.{ReadsLayout}
 use Rattle.oas_writing.specs.Stores.{Store}
 use Rattle.oas_writing.specs.Stands.{ReaderState, end_refusal}
 use Rattle.oas_writing.specs.Judging.{entry_records}
-use Rattle.oas_writing.proofs.Refusing.{ForMemory, judged_refused, memory_placed}
+use Rattle.oas_num.proofs.RefusingLemmas.{ForMemory, judged_refused}
+use Rattle.oas_writing.proofs.Refusing.{memory_placed}
 use Rattle.oas_judge.specs.declared.judge.FileJudge.{FileJudge}
 use Rattle.oas_judge.specs.FileJudges.{Decides}
 use Rattle.oas_judge.specs.Given.{IsGiven}
@@ -120,7 +121,7 @@ module _ {start now : Script} {whole : List ℕ} {name same : GName} {kept : Lis
 -- as long as only what was kept was read again, memory may still run out where it might have run out before
 pub wants_again : {limits : Limits} {start mid now : Script} {at : ℕ} (kept : List ℕ) → MayWant limits start at mid → Consumed start kept mid → Consumed start kept now → MayWant limits start at now
 wants_again {limits = limits} {at = at} kept may first takes = (
-  judged_refused kept takes (ForMemory refl),
+  judged_refused takes (ForMemory refl),
   memory_placed at Memory kept takes refl,
   record { bytes = kept; takes = takes; decided = λ fresh. subst (λ (b : List ℕ). DecidedAt limits b at Memory) (Consumed-one may.2.takes first) (may.2.decided fresh) },
 )

@@ -9,6 +9,7 @@ use Rattle.oas_num.specs.Reading.{ReadsValue, FailsPiece}
 use Rattle.oas_num.specs.Script.{Script, Consumed}
 use Rattle.oas_num.specs.Style.{Any}
 use Rattle.oas_num.proofs.ReadLemmas.{Consumed-then}
+use Rattle.oas_num.proofs.RefusingLemmas.{ForMemory, judged_refused}
 use Rattle.oas_record.specs.declared.heads.Head.{Head}
 use Rattle.oas_record.specs.declared.records.Record.{Record}
 use Rattle.oas_record.specs.declared.records.Record.TheVariants.{End as EndRecord}
@@ -25,7 +26,7 @@ use Rattle.oas_writing.specs.Files.{PrefixOf}
 use Rattle.oas_writing.specs.Gathering.{inner_in, HasGathered, HasTaken}
 use Rattle.oas_writing.specs.Reading.{Refuses}
 use Rattle.oas_writing.proofs.Fronts.{allowed_more}
-use Rattle.oas_writing.proofs.Refusing.{ForMemory, judged_refused, memory_placed}
+use Rattle.oas_writing.proofs.Refusing.{memory_placed}
 use Rattle.oas_writing.proofs.SomePlaces.{record_long}
 use Rattle.oas_writing.proofs.Taking.{gather_fails, gather_refuses}
 use Rattle.oas_writing.specs.Judging.{Entry, entry_records, entry_bytes}
@@ -57,11 +58,7 @@ bytes_with (f ∷ fs) e = ap (λ (b : List ℕ). f.1 ++ b) (bytes_with fs e) ∙
 pub front_of : {head : Head} {start : List ℕ} (entries : List Entry) → head_in Any head start → AllByRecursion (λ e. inner_in head.flag_in_end e.0 e.1) entries →
     PrefixOf head (entry_records entries) (start ++ entry_bytes entries)
 front_of {head = head} {start = start} entries begun each = record {
-  start = start;
-  body = entry_bytes entries;
-  begun = begun;
-  each = each_read head.flag_in_end entries each;
-  joined = refl;
+  spelled = record { front = start; back = entry_bytes entries; first = begun; second = each_read head.flag_in_end entries each; joined = refl };
 }
 
 -- a refusal of a reader is one here
@@ -72,7 +69,7 @@ as_kept r = (r.0, r.1, inr r.2)
 pub wants_memory : (limits : Limits) (old new : Script) (bytes : List ℕ) (at : ℕ) → Consumed old bytes new → (old.given ≡ 0 → OutOfMemoryAt limits bytes at) →
     RefusesKept limits old (record { at = at; why = Memory }) new
 wants_memory limits old new bytes at takes place =
-    (judged_refused bytes takes (ForMemory refl), memory_placed at Memory bytes takes refl, inl (record { reason = refl; bytes = bytes; takes = takes; place = place }))
+    (judged_refused takes (ForMemory refl), memory_placed at Memory bytes takes refl, inl (record { reason = refl; bytes = bytes; takes = takes; place = place }))
 
 module _ {C : Type 0} {t : Store C} {profile : Profile} {head : Head} {now : Script} {first : ReaderState C} {j : FileJudge} (b : HasBegun t profile head now first j) where
   pub seen_none : HasSeen t profile head b.begun.start b.origin first now first j

@@ -32,6 +32,7 @@ fn is_short(name: &Name) -> bool
 }
 
 /// Whether an element has its points, is within the grid, and weighs no more than any limits allow.
+#[inline(always)]
 pub(crate) fn is_drawable(element: &Element) -> bool
     ensures { IsTrue result ↔ IsDrawable element.now }
 {

@@ -11,6 +11,7 @@ use oas_peek::PeekedFigure;
 use std::alloc::Global;
 
 /// Whether the profile keeps an element unchanged; false also if out of memory.
+#[inline(always)]
 fn is_kept(alloc: Global, profile: Profile, element: &Element) -> bool
     requires { lacks_points element.now ≡ false }
     ensures { result ≡ true → element.now ≡ normal profile element.now }
@@ -20,6 +21,7 @@ fn is_kept(alloc: Global, profile: Profile, element: &Element) -> bool
 
 /// The element of a polygon or a path that is at hand, where its bytes are the canonical ones of that; None also if out of
 /// memory.
+#[inline(always)]
 pub(crate) fn spelled_figure(
     alloc: Global,
     profile: Profile,

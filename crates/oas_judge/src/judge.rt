@@ -53,6 +53,7 @@ fn begins_so(head: &Head, kept: Option<Vec<u8>>) -> Option<bool>
 }
 
 /// The element of a rectangle that is at hand, where its bytes are the canonical ones of that.
+#[inline(always)]
 fn spelled_element(ahead: &PeekedRectangle) -> Option<Element>
     ensures { IfSome result (λ element. IsSpelledBy ahead.now element) }
 {
@@ -157,6 +158,7 @@ impl FileJudge {
 
     /// Judges a rectangle that is at hand, if it is accepted. It returns false, and does nothing, where it would have to
     /// compare the bytes with the canonical ones.
+    #[inline(always)]
     pub(crate) fn judge_rectangle(&mut self, ahead: &PeekedRectangle) -> bool
         ensures no { result ≡ false → self.new ≡ self.old }
         ensures yes { result ≡ true → (all : List ℕ) → IsPeeked all ahead.now → GoesOnTaking (take ahead.now.length all) self.old (OneRectangle ahead.now.rectangle) self.new }
@@ -173,6 +175,7 @@ impl FileJudge {
 
     /// Judges a placement or a text that is at hand, if it is accepted. It returns false, and does nothing, where it would
     /// have to compare the bytes with the canonical ones.
+    #[inline(always)]
     pub(crate) fn judge_named(&mut self, ahead: &PeekedNamed<'_>) -> bool
         requires { HasValidName ahead.now.element }
         ensures no { result ≡ false → self.new ≡ self.old }
@@ -186,6 +189,7 @@ impl FileJudge {
 
     /// Judges a polygon or a path that is at hand, if it is accepted. It returns false, and does nothing, where it would have
     /// to compare the bytes with the canonical ones, or if out of memory.
+    #[inline(always)]
     pub(crate) fn judge_figure(&mut self, alloc: Global, ahead: &PeekedFigure) -> bool
         ensures no { result ≡ false → self.new ≡ self.old }
         ensures yes { result ≡ true → (all : List ℕ) → IsPeekedFigure all ahead.now → GoesOnTaking (take ahead.now.length all) self.old ahead.now.record self.new }

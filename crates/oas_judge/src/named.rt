@@ -15,6 +15,7 @@ use oas_peek::{Given, NamedOnce};
 use oas_writing::FormJudge;
 
 /// This many quarter turns, below four.
+#[inline(always)]
 fn turns_by(quarters: u8) -> Option<Turns>
     ensures { IfSome result (λ turns. turn_count turns ≡ quarters) }
 {
@@ -28,6 +29,7 @@ fn turns_by(quarters: u8) -> Option<Turns>
 }
 
 /// A place that is given, where it is within the grid.
+#[inline(always)]
 fn place_given(x: Option<i64>, y: Option<i64>) -> Option<(i64, i64)>
     ensures { IfSome result (λ at. (x ≡ Some at.0) × (y ≡ Some at.1) × (is_coordinate at.0 ≡ true) × (is_coordinate at.1 ≡ true)) }
 {
@@ -40,6 +42,7 @@ fn place_given(x: Option<i64>, y: Option<i64>) -> Option<(i64, i64)>
 
 /// Judges the element that such a record gives by its own fields, where its canonical bytes were read. Returns false, and
 /// does nothing, where the latest element is of another kind, or the record gives no such element.
+#[inline(always)]
 pub(crate) fn draw_named(form: &mut FormJudge, next: &NamedOnce<'_>) -> bool
     requires { HasValidName next.now }
     ensures no { result ≡ false → form.new ≡ form.old }

@@ -21,6 +21,7 @@ use std::alloc::{AllocError, Global};
 pub(crate) const FURTHEST: i64 = 1 << 60;
 
 /// The place of an element without a repetition, where both coordinates are given.
+#[inline(always)]
 fn point_given(spot: &Spot) -> Option<Point>
     ensures { result ≡ point_given spot.now }
 {
@@ -102,6 +103,7 @@ fn own_text(alloc: Global, written: &Text) -> Result<Option<Element>, AllocError
 }
 
 /// A rectangle that gives both sides.
+#[inline(always)]
 pub(crate) fn own_rectangle(drawn: &Rectangle) -> Option<Element>
     ensures own { IsOwn result (own_drawn (OneRecord.Rectangle drawn.now)) }
     ensures spelled { IfSome result (λ e. element_record e ≡ OneRecord.Rectangle drawn.now) }
@@ -164,6 +166,7 @@ fn is_memory(why: Why) -> bool
 
 /// The vertices of a point list that begins there; None where one of them is outside the grid.
 #[tactic(auto, using(crate::proofs::OwnLemmas::off_grid))]
+#[inline]
 fn vertices(alloc: Global, points: &PointList, at: Point) -> Result<Option<Points>, AllocError>
     ensures { IfOk result (λ own. AreVertices own (vertices_of points.now at)) }
 {
@@ -181,6 +184,7 @@ fn vertices(alloc: Global, points: &PointList, at: Point) -> Result<Option<Point
 }
 
 /// A polygon.
+#[inline]
 fn own_polygon(alloc: Global, drawn: &Polygon) -> Result<Option<Element>, AllocError>
     ensures { IfOk result (λ own. IsOwn own (own_drawn (OneRecord.Polygon drawn.now))) }
 {

@@ -116,6 +116,7 @@ fn read_part<S: Source, C: CellStore>(
 }
 
 /// Gives the reader, and shows the judge, the next record, which starts at byte `at`.
+#[inline(always)]
 fn next_part<S: Source, C: CellStore>(
     alloc: Global,
     source: &mut S,

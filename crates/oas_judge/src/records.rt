@@ -1,11 +1,13 @@
 //! A record that is at hand, accepted and judged.
 ghost use Rattle.std.specs.Prelude.{◌≡◌, IfSome};
+ghost use Rattle.oas_record.specs.declared.heads.Head.{Head as OneHead};
 ghost use Rattle.oas_judge.specs.Parts.{JudgesAtHand};
 ghost use Rattle.oas_judge.specs.Peeked.{IsFound};
+ghost use Rattle.oas_peek.specs.Peeked.{IsPeeked};
 
 use crate::judge::FileJudge;
 use oas_num::{Refusal, SliceSource, Source};
-use oas_peek::{peek_figure, peek_named, peek_rectangle};
+use oas_peek::{PeekedRectangle, peek_figure, peek_full_rectangle, peek_named, peek_rectangle};
 use oas_record::{Head, Record};
 use oas_writing::{CellStore, Reader, take_record};
 use std::alloc::Global;
@@ -32,8 +34,51 @@ fn find_record(alloc: Global, bytes: &[u8], flag_in_end: bool) -> Option<Found>
     }
 }
 
-/// Gives the reader, and shows the judge, a rectangle that is at hand, where the judge can decide at once. Returns false
+/// Gives the reader, and shows the judge, this rectangle, which is at hand, where the judge can decide at once. Returns false
 /// where it does nothing.
+#[inline(always)]
+fn take_found<S: Source, C: CellStore>(
+    source: &mut S,
+    at: u64,
+    found: PeekedRectangle,
+    reader: &mut Reader<C>,
+    judge: &mut FileJudge,
+) -> Result<bool, Refusal>
+    requires place { at ≡ (S.script source.old).given }
+    requires found { IsPeeked (S.at_hand source.old) found }
+    ensures { (head : OneHead) → JudgesAtHand C.store head (S.script source.old) reader.old judge.old result (S.script source.new) reader.new judge.new }
+{
+    if !judge.judge_rectangle(&found) {
+        return Ok(false);
+    }
+    source.skip(found.length);
+    reader.take_rectangle(at, found.rectangle)?;
+    Ok(true)
+}
+
+/// Gives the reader, and shows the judge, a rectangle that is at hand and gives all its fields, where the judge can decide at
+/// once. Returns false where it does nothing.
+///
+/// All of it is inlined, so that no field is tested for being there, and none is moved.
+#[inline(always)]
+fn next_full_rectangle<S: Source, C: CellStore>(
+    source: &mut S,
+    head: &Head,
+    at: u64,
+    reader: &mut Reader<C>,
+    judge: &mut FileJudge,
+) -> Result<bool, Refusal>
+    requires { at ≡ (S.script source.old).given }
+    ensures { JudgesAtHand C.store head.now (S.script source.old) reader.old judge.old result (S.script source.new) reader.new judge.new }
+{
+    match peek_full_rectangle(source.ahead()) {
+        Some(found) => take_found(source, at, found, reader, judge),
+        None => Ok(false),
+    }
+}
+
+/// The same of any rectangle without a repetition.
+#[inline(never)]
 fn next_rectangle<S: Source, C: CellStore>(
     source: &mut S,
     head: &Head,
@@ -44,19 +89,15 @@ fn next_rectangle<S: Source, C: CellStore>(
     requires { at ≡ (S.script source.old).given }
     ensures { JudgesAtHand C.store head.now (S.script source.old) reader.old judge.old result (S.script source.new) reader.new judge.new }
 {
-    let Some(found) = peek_rectangle(source.ahead()) else {
-        return Ok(false);
-    };
-    if !judge.judge_rectangle(&found) {
-        return Ok(false);
+    match peek_rectangle(source.ahead()) {
+        Some(found) => take_found(source, at, found, reader, judge),
+        None => Ok(false),
     }
-    source.skip(found.length);
-    reader.take_rectangle(at, found.rectangle)?;
-    Ok(true)
 }
 
 /// Gives the reader, and shows the judge, a placement or a text that is at hand, where the judge can decide at once. Returns
 /// false where it does nothing.
+#[inline(never)]
 fn next_named<S: Source, C: CellStore>(
     source: &mut S,
     head: &Head,
@@ -82,6 +123,7 @@ fn next_named<S: Source, C: CellStore>(
 
 /// Gives the reader, and shows the judge, a polygon or a path that is at hand, where the judge can decide at once. Returns
 /// false where it does nothing.
+#[inline(never)]
 fn next_figure<S: Source, C: CellStore>(
     alloc: Global,
     source: &mut S,
@@ -108,6 +150,7 @@ fn next_figure<S: Source, C: CellStore>(
 /// record is at hand, or if out of memory.
 ///
 /// It is a function of its own since whole records are moved here, and a call begins by clearing room for each of them.
+#[inline(never)]
 fn next_record<S: Source, C: CellStore>(
     alloc: Global,
     source: &mut S,
@@ -137,6 +180,7 @@ fn next_record<S: Source, C: CellStore>(
 /// Gives the reader, and shows the judge, the next record, where it is at hand. Returns false where it does nothing.
 ///
 /// An element that is spelled in the shortest style is judged by its fields, and none of its bytes is compared.
+#[inline(always)]
 pub(crate) fn next_at_hand<S: Source, C: CellStore>(
     alloc: Global,
     source: &mut S,
@@ -148,13 +192,47 @@ pub(crate) fn next_at_hand<S: Source, C: CellStore>(
     requires { at ≡ (S.script source.old).given }
     ensures { JudgesAtHand C.store head.now (S.script source.old) reader.old judge.old result (S.script source.new) reader.new judge.new }
 {
-    if next_rectangle(source, head, at, reader, judge)? {
+    if next_full_rectangle(source, head, at, reader, judge)? {
         return Ok(true);
     }
-    if next_named(source, head, at, reader, judge)? {
-        return Ok(true);
+    next_other(alloc, source, head, at, reader, judge)
+}
+
+/// The same of an element of any kind but a circle, by the faster way of its kind.
+#[inline(always)]
+fn next_of_kind<S: Source, C: CellStore>(
+    alloc: Global,
+    source: &mut S,
+    head: &Head,
+    at: u64,
+    reader: &mut Reader<C>,
+    judge: &mut FileJudge,
+) -> Result<bool, Refusal>
+    requires { at ≡ (S.script source.old).given }
+    ensures { JudgesAtHand C.store head.now (S.script source.old) reader.old judge.old result (S.script source.new) reader.new judge.new }
+{
+    match source.ahead() {
+        [20, ..] => next_rectangle(source, head, at, reader, judge),
+        [17 | 19, ..] => next_named(source, head, at, reader, judge),
+        [21 | 22, ..] => next_figure(alloc, source, head, at, reader, judge),
+        _ => Ok(false),
     }
-    if next_figure(alloc, source, head, at, reader, judge)? {
+}
+
+/// The same of any record.
+#[inline(never)]
+fn next_other<S: Source, C: CellStore>(
+    alloc: Global,
+    source: &mut S,
+    head: &Head,
+    at: u64,
+    reader: &mut Reader<C>,
+    judge: &mut FileJudge,
+) -> Result<bool, Refusal>
+    requires { at ≡ (S.script source.old).given }
+    ensures { JudgesAtHand C.store head.now (S.script source.old) reader.old judge.old result (S.script source.new) reader.new judge.new }
+{
+    if next_of_kind(alloc, source, head, at, reader, judge)? {
         return Ok(true);
     }
     next_record(alloc, source, head, at, reader, judge)

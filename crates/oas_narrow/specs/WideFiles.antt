@@ -82,8 +82,4 @@ pub record WideFileOf (start : WideStart) (ws : List WideRecord) (end : WideEnd)
 pub record WidePrefixOf (head : WideStart) (ws : List WideRecord) (bytes : List ℕ) : Type 0 where
   pub items : List (List WideRecord)
   pub all : records_of items ≡ ws
-  pub start : List ℕ
-  pub body : List ℕ
-  pub begun : wide_head head start
-  pub each : IsEach (item_in head.flag_in_end) items body
-  pub joined : bytes ≡ start ++ body
+  pub spelled : IsPair wide_head (λ start. IsEach (item_in start.flag_in_end)) (head, items) bytes

@@ -19,7 +19,8 @@ pub record Listed {V : Type 0} (A : V → List ℕ → Type 0) (old now : Script
   pub each : IsEach A vs bytes
 
 module _ {V : Type 0} (A : V → List ℕ → Type 0) where
-  IsEach-push : (vs : List V) (v : V) (a b : List ℕ) → IsEach A vs a → A v b → IsEach A (vs ++ v ∷ []) (a ++ b)
+  -- one more item
+  pub IsEach-push : (vs : List V) (v : V) (a b : List ℕ) → IsEach A vs a → A v b → IsEach A (vs ++ v ∷ []) (a ++ b)
   IsEach-push [] v a b each one = (b, [], one, refl, ap (λ (c : List ℕ). c ++ b) each ∙ sym (append-nil b))
   IsEach-push (w ∷ vs) v a b each one =
       (each.0, each.1 ++ b, each.2, IsEach-push vs v each.1 b each.3 one, ap (λ (c : List ℕ). c ++ b) each.4 ∙ append_assoc each.0 each.1 b)

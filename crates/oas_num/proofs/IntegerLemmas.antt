@@ -139,7 +139,8 @@ last_fits v w b e lt le = let m : b * w ≤ 1 * w = mul-le b w 1 w le (omega ari
 pub small_digit : (v w b : ℕ) → b ≤ 1 → v + b * w ≡ v + b % 128 * w
 small_digit v w b le = let e : b % 128 ≡ b = omega arith in rw e refl
 
-closed_long : (q : List ℕ) → IsClosed q → 0 < length q
+-- a whole integer has at least one byte
+pub closed_long : (q : List ℕ) → IsClosed q → 0 < length q
 closed_long [] h = absurd h
 closed_long (d ∷ q) h = omega arith
 

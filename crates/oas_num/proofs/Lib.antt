@@ -2,6 +2,8 @@ pub mod ReadLemmas
 pub mod IntegerLemmas
 pub mod MidwayLemmas
 pub mod GrammarLemmas
+pub mod PrefixLemmas
+pub mod RefusingLemmas
 pub mod PieceLemmas
 pub mod HalfwayLemmas
 pub mod WritingLemmas

@@ -1,11 +1,16 @@
 -- One read after another.
-use Rattle.std.proofs.Common.{◌≡◌, ℕ, Bool, List, ◌++◌, sym, ap, subst, ◌∙◌, append_assoc}
+use Rattle.std.proofs.Common.{◌≡◌, ℕ, Bool, List, [], ◌++◌, sym, ap, subst, ◌∙◌, append_assoc}
+use Rattle.std.proofs.lemmas.List.{append-nil}
 use Rattle.oas_num.specs.declared.refusals.Why.{Why}
 use Rattle.oas_num.specs.Script.{Script, Consumed}
 use Rattle.oas_num.specs.Begun.{HasSome, Begins, Before}
 use Rattle.oas_num.specs.Laws.BegunLaws.{Before-begins}
 use Rattle.oas_num.specs.Reading.{NoneFits, NoneWithin, FailsBy}
 pub use Rattle.oas_bytes.proofs.ScriptLemmas.{Consumed-none, Consumed-then, Consumed-nothing, Consumed-one, since_is, since_then, consumed_since, since_none, consumed_none}
+
+-- nothing more was taken
+pub Consumed-still : {old mid new : Script} {bytes : List ℕ} → Consumed old bytes mid → Consumed mid [] new → Consumed old bytes new
+Consumed-still {old} {mid} {new} {bytes} takes none = subst (λ (b : List ℕ). Consumed old b new) (append-nil bytes) (Consumed-then old mid new bytes [] takes none)
 
 -- after these bytes each spelling goes on with one of the other kind
 pub record Wants {V W : Type 0} (spells : V → List ℕ → Type 0) (front : List ℕ) (next : W → List ℕ → Type 0) : Type 0 where

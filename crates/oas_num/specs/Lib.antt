@@ -16,6 +16,7 @@ pub mod Texts
 pub mod Named
 pub mod Pieces
 pub mod Reading
+pub mod Refusing
 pub mod Reals
 pub mod Writing
 pub mod Written

@@ -40,6 +40,11 @@
 //!   `item_unkept`).
 //! - proofs/GrammarLemmas.antt: `key_read` reads what is keyed by what comes before it (a string by its length). `Listed` is
 //!   what a loop over items has read.
+//! - For whole inputs: proofs/PrefixLemmas.antt has how two prefixes of one file compare (`fronts`), and how a file goes on
+//!   after a prefix of it (`goes_on`), for files of any kind, which are a head, items and an end. specs/Refusing.antt says
+//!   what a refusal says of an input (`IsRefusedBy`), by which inputs are accepted, and proofs/RefusingLemmas.antt when it
+//!   does: where what each accepted input requires can't be read (`read_refused`), where what was read isn't accepted
+//!   (`judged_refused`), and where the source stopped (`stopped_refused`).
 //!
 //! How the proof goes: each exit of a reading function is one line over `Halfway`; the loops of integers and strings have
 //! an invariant record (`Partway`, `Listed`, `Passed`).

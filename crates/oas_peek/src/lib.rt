@@ -51,4 +51,4 @@ pub use figures::{PeekedFigure, peek_figure};
 pub use named::{Given, NamedOnce, PeekedNamed, peek_named};
 pub use paths::{PeekedPath, peek_path};
 pub use polygons::{PeekedPolygon, peek_polygon};
-pub use rectangles::{PeekedRectangle, peek_rectangle};
+pub use rectangles::{PeekedRectangle, peek_full_rectangle, peek_rectangle};

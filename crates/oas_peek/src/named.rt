@@ -50,7 +50,7 @@ pub enum NamedOnce<'a> {
 
 impl<'a> NamedOnce<'a> {
     /// Whether the bytes that are given for a cell are a name, and those for a string are one.
-    #[inline]
+    #[inline(always)]
     fn is_named(&self) -> bool
         ensures { IsTrue result ↔ HasValidName self.now }
     {
@@ -103,6 +103,7 @@ fn gives_all(info: u8) -> bool
 }
 
 /// A placement, after its id.
+#[inline(always)]
 fn take_placement<'a>(front: &mut Front<'a>) -> Option<NamedOnce<'a>>
     ensures { IfSome result (λ element. ConsumesNamed 17 element front.old front.new) }
 {
@@ -124,6 +125,7 @@ fn take_placement<'a>(front: &mut Front<'a>) -> Option<NamedOnce<'a>>
 }
 
 /// A text, after its id.
+#[inline(always)]
 fn take_text<'a>(front: &mut Front<'a>) -> Option<NamedOnce<'a>>
     ensures { IfSome result (λ element. ConsumesNamed 19 element front.old front.new) }
 {
@@ -147,6 +149,7 @@ fn take_text<'a>(front: &mut Front<'a>) -> Option<NamedOnce<'a>>
 
 /// The placement or the text that the bytes begin with, where it has no repetition and each of its numbers has at most nine
 /// bytes. None also where the bytes end before it does, or begin with anything else.
+#[inline(always)]
 pub fn peek_named(bytes: &[u8]) -> Option<PeekedNamed<'_>>
     ensures { IfSome result (λ ahead. IsPeekedNamed bytes.now ahead) }
 {

@@ -1,5 +1,5 @@
 //! A polygon at the start of bytes.
-ghost use Rattle.std.specs.Prelude.{◌↔◌, true, IsTrue, Some, IfSome};
+ghost use Rattle.std.specs.Prelude.{◌≡◌, ◌↔◌, ◌++◌, ◌∷◌, [], true, IsTrue, Some, IfSome};
 ghost use Rattle.oas_shape.specs.ListUses.{IsFitting};
 ghost use Rattle.oas_peek.specs.Polygons.{IsPeekedPolygon, ConsumesIn, ConsumesList, ConsumesPolygon, step_in, steps_in};
 
@@ -34,6 +34,7 @@ pub struct PeekedPolygon {
 }
 
 /// A step in any direction, in one or two numbers (SEMI P39, Deltas). The shortest style has two.
+#[inline(always)]
 fn take_step(front: &mut Front<'_>) -> Option<GDelta>
     ensures { IfSome result (λ step. ConsumesIn step_in step front.old front.new) }
 {
@@ -47,13 +48,27 @@ fn take_step(front: &mut Front<'_>) -> Option<GDelta>
     Some(GDelta::from_numbers(first, Some(second)))
 }
 
+/// Puts a step at the end, with no call where there is room; None if out of memory.
+#[inline(always)]
+fn push_step(steps: &mut Vec<GDelta>, step: GDelta) -> Option<()>
+    ensures { IfSome result (λ _. steps.new.items ≡ steps.old.items ++ step ∷ []) }
+{
+    if steps.len() < steps.capacity() {
+        steps.push_reserved(step);
+        return Some(());
+    }
+    steps.push(step).ok()
+}
+
 /// This many steps.
+#[inline(always)]
 fn take_steps(alloc: Global, front: &mut Front<'_>, count: u64) -> Option<Vec<GDelta>>
     ensures { IfSome result (λ steps. ConsumesIn (steps_in count) steps.items front.old front.new) }
 {
     let mut steps = Vec::with_capacity(alloc, count.min(FIRST_ROOM) as usize).ok()?;
     for _ in 0..count {
-        steps.push(take_step(front)?).ok()?;
+        let step = take_step(front)?;
+        push_step(&mut steps, step)?;
     }
     Some(steps)
 }
@@ -71,6 +86,7 @@ fn may_have(purpose: ListUse, count: u64) -> bool
 }
 
 /// A point list of type 4.
+#[inline(always)]
 fn take_list(alloc: Global, front: &mut Front<'_>, purpose: ListUse) -> Option<PointList>
     ensures { IfSome result (λ list. ConsumesList purpose true (Some list) front.old front.new) }
 {
@@ -85,6 +101,7 @@ fn take_list(alloc: Global, front: &mut Front<'_>, purpose: ListUse) -> Option<P
 }
 
 /// The same, where there is one.
+#[inline(always)]
 pub(crate) fn take_list_if(
     alloc: Global,
     front: &mut Front<'_>,
@@ -101,6 +118,7 @@ pub(crate) fn take_list_if(
 }
 
 /// A polygon, after its id.
+#[inline(always)]
 fn take_polygon(alloc: Global, front: &mut Front<'_>) -> Option<Polygon>
     ensures { IfSome result (λ polygon. ConsumesPolygon polygon front.old front.new) }
 {
@@ -128,6 +146,7 @@ fn take_polygon(alloc: Global, front: &mut Front<'_>) -> Option<Polygon>
 /// The polygon that the bytes begin with, where it has no repetition, its point list, if it gives one, has type 4, and each
 /// of its numbers has at most nine bytes. None also where the bytes end before it does, or begin with anything else, or if
 /// out of memory.
+#[inline(always)]
 pub fn peek_polygon(alloc: Global, bytes: &[u8]) -> Option<PeekedPolygon>
     ensures { IfSome result (λ ahead. IsPeekedPolygon bytes.now ahead) }
 {

@@ -107,6 +107,17 @@ fn peek_partly(bytes: &[u8], info: u8) -> Option<PeekedRectangle>
     peek_with(bytes, info)
 }
 
+/// The rectangle that the bytes begin with, where it gives all its fields and no repetition, each number in at most nine
+/// bytes. None also where the bytes end before it does, or begin with anything else.
+///
+/// It is inlined, so that its caller tests for no field whether it is given.
+#[inline(always)]
+pub fn peek_full_rectangle(bytes: &[u8]) -> Option<PeekedRectangle>
+    ensures { IfSome result (λ ahead. IsPeeked bytes.now ahead) }
+{
+    peek_with(bytes, ALL_FIELDS)
+}
+
 /// The rectangle that the bytes begin with, where it has no repetition and each of its numbers has at most nine bytes. None
 /// also where the bytes end before it does, or begin with anything else.
 pub fn peek_rectangle(bytes: &[u8]) -> Option<PeekedRectangle>
@@ -116,7 +127,7 @@ pub fn peek_rectangle(bytes: &[u8]) -> Option<PeekedRectangle>
         return None;
     };
     if *info == ALL_FIELDS {
-        return peek_with(bytes, ALL_FIELDS);
+        return peek_full_rectangle(bytes);
     }
     if !is_once(*info) {
         return None;

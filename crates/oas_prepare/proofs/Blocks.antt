@@ -1,11 +1,14 @@
 -- A block that was taken, or stops the file.
-use Rattle.std.proofs.Common.{◌≡◌, ℕ, ◌<◌, Bool, List, [], ◌∷◌, ◌++◌, length, IsTrue, ◌⊎◌, refl, sym, ap, subst, ◌∙◌, append_assoc, arith}
+use Rattle.std.proofs.Common.{◌≡◌, ℕ, ◌<◌, Bool, List, [], ◌++◌, length, IsTrue, ◌⊎◌, refl, sym, ap, subst, ◌∙◌, append_assoc, arith}
 use Rattle.std.proofs.lemmas.List.{append-nil}
+use Rattle.oas_num.specs.declared.refusals.Why.{Why}
 use Rattle.oas_num.specs.declared.refusals.Why.TheVariants as why_of
 use Rattle.oas_num.specs.Grammar.{IsEach}
 use Rattle.oas_num.specs.Reading.{ReadsValue}
 use Rattle.oas_num.specs.Script.{Script, Consumed}
 use Rattle.oas_num.proofs.ReadLemmas.{Consumed-then}
+use Rattle.oas_num.proofs.PrefixLemmas.{Follows, ByItem, ByEnd}
+use Rattle.oas_num.proofs.RefusingLemmas.{ForMemory as Wanting, Decided, judged_refused, StoppedBy, stopped_not, stopped_refused}
 use Rattle.oas_narrow.specs.Blocks.{Represents}
 use Rattle.oas_elements.specs.declared.limits.Limits.{Limits}
 use Rattle.oas_narrow.specs.Stores.{Store}
@@ -21,7 +24,7 @@ use Rattle.oas_narrow.specs.declared.places.Place.{Place}
 use Rattle.oas_narrow.specs.declared.places.Place.TheVariants.{File, Block}
 use Rattle.oas_narrow.specs.declared.places.Rejection.{Rejection}
 use Rattle.oas_narrow.specs.Preparable.{AllPrepared, Formed}
-use Rattle.oas_narrow.specs.WideFiles.{inner_in, end_in, head_in, item_in, AsRecord, AsBlock, records_of}
+use Rattle.oas_narrow.specs.WideFiles.{WideFileOf, wide_head, inner_in, head_in, AsRecord, AsBlock, records_of}
 use Rattle.oas_prepare.specs.Deciding.{decides}
 use Rattle.oas_prepare.specs.Gathering.{HasGathered}
 use Rattle.oas_prepare.specs.Inside.{HasTaken, IsAtBlock, IsCutBy, NoData, StopsBlock, ForMemory, CutOff, ByBytes, InVain, AtInner, ReasonsBlock}
@@ -29,9 +32,9 @@ use Rattle.oas_prepare.specs.Places.{at_file, ByRecord, StopsInData, EndsInData,
 use Rattle.oas_prepare.specs.Run.{IsStopped, IsPlaced, Stops}
 use Rattle.oas_prepare.specs.Taking.{State}
 use Rattle.oas_prepare.proofs.BlockReasons.{block_reasoned}
-use Rattle.oas_prepare.proofs.Fronts.{Compared, Same, More, Less, Fronts, fronts, Ended, ended, end_by, not_both, allowed_prefix, front_more, goes_on}
+use Rattle.oas_prepare.proofs.Fronts.{allowed_prefix, item_of, end_of, front_more, goes_on, records_then}
 use Rattle.oas_prepare.proofs.Items.{record_no_block, block_no_end}
-use Rattle.oas_prepare.proofs.Refusing.{ForMemory as Wanting, Decided, judged_stopped, memory_placed, there_at}
+use Rattle.oas_prepare.proofs.Refusing.{memory_placed, there_at}
 use Rattle.oas_prepare.proofs.Packed.{Behind, behind, few_bytes, no_data, vain_no_data, one_plain, not_inner}
 
 -- it stops there, whatever the reason
@@ -66,33 +69,23 @@ module _ {C : Type 0} {t : Store C} {origin mid : Script} {head : WideStart} {fi
   taken : {new : Script} (bytes : List ℕ) → Consumed begun bytes new → Consumed origin (before ++ bytes) new
   taken {new = new} bytes takes = Consumed-then origin begun new before bytes (Consumed-then origin mid begun m.bytes read.bytes m.takes read.takes) takes
 
-  block_goes_on : {start : WideStart} {ss : List WideRecord} {end : WideEnd} {whole : List ℕ} (r bytes : List ℕ) → Ended start ss end whole → whole ++ r ≡ before ++ bytes → GoesOn in_end block m.records bytes ss
-  block_goes_on {start = start} {ss = ss} {end = end} {whole = whole} r bytes g e = by both.items where
-    both : Fronts head start m.front.items g.front.items (read.bytes ++ bytes) (g.last ++ r)
-    both = fronts (read.bytes ++ bytes) (g.last ++ r) m.front g.front (sym (append_assoc m.bytes read.bytes bytes) ∙ sym e ∙ ap (λ (c : List ℕ). c ++ r) g.joined ∙ append_assoc g.before g.last r)
-
-    ends : end_in in_end end g.last
-    ends = end_by both.heads g.ends
-
-    item : (ws : List WideRecord) (tail : List (List WideRecord)) (front more : List ℕ) → g.front.items ≡ (m.front.items ++ ws ∷ []) ++ tail → item_in in_end ws front → read.bytes ++ bytes ≡ front ++ more → GoesOn in_end block m.records bytes ss
-    item ws tail front more is (AsRecord w same one) stands = absurd (record_no_block in_end w block front read.bytes more bytes one read.spelled (sym stands))
-    item ws tail front more is (AsBlock b) stands = record {
+  block_goes_on : {start : WideStart} {ss : List WideRecord} {end : WideEnd} {whole : List ℕ} (r bytes : List ℕ) (g : WideFileOf start ss end whole) → whole ++ r ≡ before ++ bytes → GoesOn in_end block m.records bytes ss
+  block_goes_on {ss = ss} {end = end} r bytes g e = by (goes_on (read.bytes ++ bytes) r m.front g (e ∙ append_assoc m.bytes read.bytes bytes)).follows where
+    by : Follows wide_head item_of end_of head m.front.items g.items end g.spelled.second.back (read.bytes ++ bytes) r → GoesOn in_end block m.records bytes ss
+    by (ByItem ws tail front more is (AsRecord w same one) stands) = absurd (record_no_block in_end w block front read.bytes more bytes one read.spelled (sym stands))
+    by (ByItem ws tail front more is (AsBlock b) stands) = record {
       plain = b.block.1;
       rest = more;
       inner = ws;
       tail = records_of tail;
       behind = behind in_end block read.bytes bytes b.block front more read.spelled b.spelled stands;
       each = b.each;
-      records = goes_on m.front g.front ws tail is;
+      records = records_then m.front g ws tail is;
     }
-
-    by : Compared (item_in in_end) m.front.items g.front.items (read.bytes ++ bytes) (g.last ++ r) → GoesOn in_end block m.records bytes ss
-    by (Same same lefts) = absurd (block_no_end in_end block end read.bytes g.last bytes r read.spelled ends lefts)
-    by (More ws tail front more is one stands) = item ws tail front more is one stands
-    by (Less ws tail front more is one stands) = absurd (not_both in_end ws end front g.last more r one ends (sym stands))
+    by (ByEnd same ends lefts) = absurd (block_no_end in_end block end read.bytes g.spelled.second.back bytes r read.spelled ends lefts)
 
   in_file : (bytes more : List ℕ) (a : Formed limits dropping ((before ++ bytes) ++ more)) → GoesOn in_end block m.records (bytes ++ more) a.records
-  in_file bytes more a = let whole = (before ++ bytes) ++ more in block_goes_on [] (bytes ++ more) (ended a.file) (append-nil whole ∙ append_assoc before bytes more)
+  in_file bytes more a = let whole = (before ++ bytes) ++ more in block_goes_on [] (bytes ++ more) a.file (append-nil whole ∙ append_assoc before bytes more)
 
   inner_prepared : {bytes : List ℕ} {all : List WideRecord} (g : GoesOn in_end block m.records bytes all) → AllPrepared limits dropping all → AllPrepared limits dropping (m.records ++ g.inner)
   inner_prepared g a = allowed_prefix limits dropping (m.records ++ g.inner) g.tail (subst (AllPrepared limits dropping) (g.records ∙ sym (append_assoc m.records g.inner g.tail)) a)
@@ -175,12 +168,12 @@ module _ {C : Type 0} {t : Store C} {origin mid : Script} {head : WideStart} {fi
 
     -- out of memory
     wanting_stops : (e : Rejection) → IsAtBlock at e.place → e.why ≡ wide.Profile why_of.Memory → Halts limits dropping origin e new
-    wanting_stops e place is = (judged_stopped (taken bytes takes) (Wanting (ap plain_of is)), memory_placed e (before ++ bytes) (taken bytes takes) (there e.place place) (ap plain_of is))
+    wanting_stops e place is = (judged_refused (taken bytes takes) (Wanting (ap plain_of is)), memory_placed e (before ++ bytes) (taken bytes takes) (there e.place place) (ap plain_of is))
 
     -- since no block begins like this
     bytes_stop : (e : Rejection) → NoData block bytes → e.place ≡ File at → IsTrue (decides e.why) → Halts limits dropping origin e new
     bytes_stop e n place is = (
-      judged_stopped (taken bytes takes) (Decided is (λ more a. no_data more n (in_file bytes more a.formed).behind)),
+      judged_refused (taken bytes takes) (Decided is (λ more a. no_data more n (in_file bytes more a.formed).behind)),
       record {
         bytes = before ++ bytes;
         takes = taken bytes takes;
@@ -193,7 +186,7 @@ module _ {C : Type 0} {t : Store C} {origin mid : Script} {head : WideStart} {fi
     vain_stops : (e : Rejection) (plain : List ℕ) (within : ℕ) → IsVain block plain bytes → e.place ≡ Block at within → IsTrue (decides e.why) →
         StopsInData limits dropping in_end m.records plain within ⊎ EndsInData limits dropping in_end m.records plain within → Halts limits dropping origin e new
     vain_stops e plain within vain is decided s = (
-      judged_stopped (taken bytes takes) (Decided decided (λ more a. no_data more (vain_no_data vain) (in_file bytes more a.formed).behind)),
+      judged_refused (taken bytes takes) (Decided decided (λ more a. no_data more (vain_no_data vain) (in_file bytes more a.formed).behind)),
       record {
         bytes = before ++ bytes;
         takes = taken bytes takes;
@@ -206,7 +199,7 @@ module _ {C : Type 0} {t : Store C} {origin mid : Script} {head : WideStart} {fi
     inner_stops : (e : Rejection) (plain : List ℕ) (within : ℕ) → Represents block bytes plain → e.place ≡ Block at within → IsTrue (decides e.why) →
         StopsInData limits dropping in_end m.records plain within → Halts limits dropping origin e new
     inner_stops e plain within stands is decided s = (
-      judged_stopped (taken bytes takes) (Decided decided (λ more a. not more a.formed)),
+      judged_refused (taken bytes takes) (Decided decided (λ more a. not more a.formed)),
       record {
         bytes = before ++ bytes;
         takes = taken bytes takes;
@@ -221,7 +214,13 @@ module _ {C : Type 0} {t : Store C} {origin mid : Script} {head : WideStart} {fi
 
     -- since the source ended or stopped
     cut_not : length bytes < block.deflated → (front rest : List ℕ) → front ++ rest ≡ before ++ bytes → Formed limits dropping front → ⊥
-    cut_not few front rest e a = few_bytes (block_goes_on rest bytes (ended a.file) e).behind few
+    cut_not few front rest e a = few_bytes (block_goes_on rest bytes a.file e).behind few
+
+    source_stops : (why : Why) → length bytes < block.deflated → StoppedBy why new → Halts limits dropping origin (at_file at (wide.Profile why)) new
+    source_stops why few stop = (
+      stopped_refused why (before ++ bytes) (taken bytes takes) stop (λ front rest e a. absurd (cut_not few front rest e a.formed)),
+      record { bytes = before ++ bytes; takes = taken bytes takes; there = tt; placed = λ fresh of_file. absurd (stopped_not why new stop of_file) },
+    )
 
     cut_stops : (why : WideWhy) → length bytes < block.deflated → IsCutBy why new → Halts limits dropping origin (at_file at why) new
     cut_stops (wide.Profile why_of.Truncated) few cut = (
@@ -244,32 +243,8 @@ module _ {C : Type 0} {t : Store C} {origin mid : Script} {head : WideStart} {fi
             at_head more fresh (λ plain rest b. few_bytes (subst (λ (c : List ℕ). Behind block plain c rest) all b) few);
       },
     )
-    cut_stops (wide.Profile why_of.Read) few cut = (
-      record {
-        bytes = before ++ bytes;
-        takes = taken bytes takes;
-        decided = λ d. absurd cc;
-        cut = λ _ front rest e a. absurd (cut_not few front rest e a.formed);
-        truncated = λ e. absurd cc;
-        device = λ _. cut;
-        too_long = λ e. absurd cc;
-        reading = λ e. cc;
-      },
-      record { bytes = before ++ bytes; takes = taken bytes takes; there = tt; placed = λ fresh of_file. absurd cc },
-    )
-    cut_stops (wide.Profile why_of.InputTooLong) few cut = (
-      record {
-        bytes = before ++ bytes;
-        takes = taken bytes takes;
-        decided = λ d. absurd cc;
-        cut = λ _ front rest e a. absurd (cut_not few front rest e a.formed);
-        truncated = λ e. absurd cc;
-        device = λ e. absurd cc;
-        too_long = λ _. cut;
-        reading = λ e. cc;
-      },
-      record { bytes = before ++ bytes; takes = taken bytes takes; there = tt; placed = λ fresh of_file. absurd cc },
-    )
+    cut_stops (wide.Profile why_of.Read) few cut = source_stops why_of.Read few cut
+    cut_stops (wide.Profile why_of.InputTooLong) few cut = source_stops why_of.InputTooLong few cut
     cut_stops _ few cut = absurd cut
 
   same_by : (at : ℕ) (e : Rejection) → e.place ≡ File at → at_file at e.why ≡ e

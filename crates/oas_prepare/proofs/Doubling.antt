@@ -4,10 +4,10 @@ use Rattle.std.specs.Int.{◌∣◌, IsGcd}
 use Rattle.std.specs.Prelude.{Option, None, Some, IfSome}
 use Rattle.std.proofs.lemmas.Bool.{cases_lt}
 use Rattle.std.proofs.lemmas.Nat.Gcd.{IsGcd-from_zero, IsGcd-from_sub, IsGcd-swap, same_from_IsGcd}
-use Rattle.std.proofs.Math.Nat.{mul-sub, mul-le-mul_left, one-dvd, dvd-sub, dvd-mul_left, dvd-mul_left_of_dvd, mul-dvd-mul_left, mul-dvd-mul_right, dvd_of_mul-dvd-mul_right, one-mul}
+use Rattle.std.proofs.Math.Nat.{mul-sub, mul-le-mul_left, dvd-sub, dvd-mul_left, dvd-mul_left_of_dvd, mul-dvd-mul_left}
 use Rattle.std.proofs.lemmas.Nat.{pow-add}
 use Rattle.oas_num.specs.Ratio.{Ratio, Reduces}
-use Rattle.oas_num.specs.Laws.RatioLaws.{one_lowest}
+use Rattle.oas_num.specs.Laws.RatioLaws.{one_lowest, coprime_parts, value_same}
 use Rattle.oas_record.specs.Laws.HeadLaws.{itself}
 use Rattle.oas_narrow.specs.WideReal.{WideReal}
 use Rattle.oas_narrow.specs.Preparable.{IsUnitOf}
@@ -55,20 +55,6 @@ scaled : (c a b g : ℕ) → IsGcd a b g → IsGcd (c * a) (c * b) (c * g)
 scaled c a b g h = let s = scaled_by (a + b) c a b (omega arith) in subst (λ k. IsGcd (c * a) (c * b) (c * k)) (same_from_IsGcd a b s.g g s.here h) s.there
 
 -- ---- lowest terms
-
-coprime_parts : (p q a b g : ℕ) → 0 < g → p * g ≡ a → q * g ≡ b → IsGcd a b g → IsGcd p q 1
-coprime_parts p q a b g some e f h = (
-  one-dvd p,
-  one-dvd q,
-  λ d x y.
-      let u = mul-dvd-mul_right d x g in
-      let v = mul-dvd-mul_right d y g in
-      let w = h.2 (d * g) (rw (← e) u) (rw (← f) v) in
-      dvd_of_mul-dvd-mul_right {k = g} d {n = 1} some (rw (one-mul g) w),
-)
-
-value_same : (p q a b g : ℕ) → p * g ≡ a → q * g ≡ b → p * b ≡ a * q
-value_same p q a b g e f = rw (← e, ← f) (grind arith)
 
 reduces_of : (a b p q g : ℕ) → 0 < p → 0 < q → 0 < g → IsGcd a b g → p * g ≡ a → q * g ≡ b → Reduces a b (ratio p q)
 reduces_of a b p q g num den some h e f = record {

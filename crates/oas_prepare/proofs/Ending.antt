@@ -4,9 +4,9 @@ use Rattle.std.proofs.lemmas.List.{append-nil, length-append}
 use Rattle.oas_num.specs.declared.refusals.Why.{Why}
 use Rattle.oas_num.specs.declared.refusals.Why.TheVariants.{TrailingBytes, Read, InputTooLong, Memory}
 use Rattle.oas_num.specs.declared.refusals.Refusal.{Refusal}
-use Rattle.oas_num.specs.Laws.GrammarLaws.{after_same}
 use Rattle.oas_num.specs.Script.{Script, Consumed, IsAtEnd}
-use Rattle.oas_num.proofs.ReadLemmas.{Consumed-then}
+use Rattle.oas_num.proofs.ReadLemmas.{Consumed-then, Consumed-still}
+use Rattle.oas_num.proofs.RefusingLemmas.{ForMemory, Decided, judged_refused, StoppedBy, stopped_not, stopped_refused}
 use Rattle.oas_elements.specs.declared.limits.Limits.{Limits}
 use Rattle.oas_narrow.specs.Stands.{ReaderState, end_refusal}
 use Rattle.oas_narrow.specs.Stores.{Store}
@@ -24,7 +24,7 @@ use Rattle.oas_narrow.specs.declared.places.Rejection.{Rejection}
 use Rattle.oas_narrow.specs.Narrowing.{narrowed}
 use Rattle.oas_narrow.specs.Preparable.{IsUnitOf, AllPrepared, IsValid, Formed, Preparable}
 use Rattle.oas_narrow.specs.Rejections.{refused}
-use Rattle.oas_narrow.specs.WideFiles.{WideParts, WideFileOf}
+use Rattle.oas_narrow.specs.WideFiles.{WideFileOf}
 use Rattle.oas_prepare.specs.declared.gathering.Gathered.{Gathered}
 use Rattle.oas_prepare.specs.Gathering.{HasAll, IsGathered}
 use Rattle.oas_prepare.specs.Places.{at_file, StopsAt, AfterLast, ByEnd}
@@ -33,8 +33,9 @@ use Rattle.oas_narrow.specs.Reasons.{plain_of}
 use Rattle.oas_prepare.specs.Deciding.{decides}
 use Rattle.oas_prepare.specs.Reasons.{DecidedAt, TailMay, TheTail, WholeMay, Unsound, Torn, TheWhole, IsReasoned}
 use Rattle.oas_prepare.specs.Run.{IsPlaced, Stops}
-use Rattle.oas_prepare.proofs.Refusing.{ForMemory, Decided, judged_stopped, memory_placed, there_at}
-use Rattle.oas_prepare.proofs.OneFile.{PrefixFree-file, same_all, file_all, none_after}
+use Rattle.oas_prepare.proofs.Refusing.{memory_placed, there_at}
+use Rattle.oas_prepare.proofs.Fronts.{file_all}
+use Rattle.oas_prepare.proofs.OneFile.{one_file}
 
 -- ---- after END
 
@@ -50,10 +51,7 @@ module _ {C : Type 0} {t : Store C} {old mid : Script} {head : WideStart} {first
 
   -- no file is a proper prefix of this one
   all_taken : (whole rest : List ℕ) → whole ++ rest ≡ all → Preparable limits dropping whole → rest ≡ []
-  all_taken whole rest e a =
-      let same : whole ++ rest ≡ all ++ [] = e ∙ sym (append-nil all) in
-      let one = PrefixFree-file.one (a.formed.start, (a.formed.file.items, a.formed.end)) (head, ((file_all m.front m.ends).items, end)) whole all rest [] a.formed.file.spelled (file_all m.front m.ends).spelled same in
-      after_same whole all rest [] one.0 same
+  all_taken whole rest e a = (one_file rest a.formed.file (file_all m.front m.ends) e).none
 
   tail_place : (at : ℕ) → at ≡ mid.given → old.given ≡ 0 → at ≡ length m.bytes + length m.last
   tail_place at is fresh = omega (arith, is, m.takes.given, fresh, length-append m.bytes m.last)
@@ -81,7 +79,7 @@ module _ {C : Type 0} {t : Store C} {old mid : Script} {head : WideStart} {first
 
   byte_stops : {new : Script} (at byte : ℕ) → at ≡ mid.given → Consumed mid (byte ∷ []) new → Stops limits dropping old (at_file at (wide.Profile TrailingBytes)) new
   byte_stops {new = new} at byte is takes = (
-    judged_stopped both (Decided refl (λ more a. not more a)),
+    judged_refused both (Decided refl (λ more a. not more a)),
     record {
       bytes = all ++ (byte ∷ []);
       takes = both;
@@ -107,42 +105,20 @@ module _ {C : Type 0} {t : Store C} {old mid : Script} {head : WideStart} {first
     both = Consumed-then old mid new all (byte ∷ []) m.takes takes
 
     not : (more : List ℕ) → Preparable limits dropping ((all ++ (byte ∷ [])) ++ more) → ⊥
-    not more a =
-        none_after byte more m.front m.ends (subst (λ (b : List ℕ). WideFileOf a.formed.start a.formed.records a.formed.end b) (append_assoc all (byte ∷ []) more) a.formed.file)
+    not more a = let none = (one_file (byte ∷ more) (file_all m.front m.ends) a.formed.file (sym (append_assoc all (byte ∷ []) more))).none in cc
 
-  taken_all : {new : Script} → Consumed mid [] new → Consumed old all new
-  taken_all {new = new} takes = subst (λ (b : List ℕ). Consumed old b new) (append-nil all) (Consumed-then old mid new all [] m.takes takes)
+  -- the source stopped
+  tail_stopped : {new : Script} (at : ℕ) (why : Why) → at ≡ mid.given → Consumed mid [] new → StoppedBy why new → TailMay (wide.Profile why) [] → Stops limits dropping old (at_file at (wide.Profile why)) new
+  tail_stopped {new = new} at why is takes stop may = (
+    stopped_refused why all (Consumed-still m.takes takes) stop all_taken,
+    record { bytes = all; takes = Consumed-still m.takes takes; there = tt; placed = λ fresh of_file. absurd (stopped_not why new stop of_file) },
+    tail_reasoned at (wide.Profile why) [] is takes may,
+  )
 
   tail_stops : {new : Script} (at : ℕ) (why : Why) → at ≡ mid.given → MissesEnd mid why new → Stops limits dropping old (at_file at (wide.Profile why)) new
   tail_stops at TrailingBytes is h = byte_stops at h.0 is h.1
-  tail_stops at Read is h = (
-    record {
-      bytes = all;
-      takes = taken_all h.0;
-      decided = λ d. absurd cc;
-      cut = λ _. all_taken;
-      truncated = λ e. absurd cc;
-      device = λ _. h.1;
-      too_long = λ e. absurd cc;
-      reading = λ e. cc;
-    },
-    record { bytes = all; takes = taken_all h.0; there = tt; placed = λ fresh of_file. absurd cc },
-    tail_reasoned at (wide.Profile Read) [] is h.0 refl,
-  )
-  tail_stops at InputTooLong is h = (
-    record {
-      bytes = all;
-      takes = taken_all h.0;
-      decided = λ d. absurd cc;
-      cut = λ _. all_taken;
-      truncated = λ e. absurd cc;
-      device = λ e. absurd cc;
-      too_long = λ _. h.1;
-      reading = λ e. cc;
-    },
-    record { bytes = all; takes = taken_all h.0; there = tt; placed = λ fresh of_file. absurd cc },
-    tail_reasoned at (wide.Profile InputTooLong) [] is h.0 refl,
-  )
+  tail_stops at Read is h = tail_stopped at Read is h.0 h.1 refl
+  tail_stops at InputTooLong is h = tail_stopped at InputTooLong is h.0 h.1 refl
   tail_stops at _ is h = absurd h
 
   -- the input doesn't end after END
@@ -157,7 +133,7 @@ module _ {C : Type 0} {t : Store C} {old mid : Script} {head : WideStart} {first
     records = m.records;
     bytes = m.bytes;
     last = m.last;
-    takes = taken_all takes;
+    takes = Consumed-still m.takes takes;
     ended = at_end;
     front = m.front;
     ends = m.ends;
@@ -176,22 +152,6 @@ module _ {C : Type 0} {t : Store C} {limits : Limits} {dropping : Dropping} {old
 
   pub file : WideFileOf m.start m.records g.end whole
   file = file_all m.front m.ends
-
-  -- a file that begins like this has the same records and END, and nothing after them
-  record Same (more : List ℕ) (a : Formed limits dropping (whole ++ more)) : Type 0 where
-    records : m.records ≡ a.records
-    end : g.end ≡ a.end
-    none : more ≡ []
-
-  same : (more : List ℕ) (a : Formed limits dropping (whole ++ more)) → Same more a
-  same more a =
-      let e : whole ++ more ≡ (whole ++ more) ++ [] = sym (append-nil (whole ++ more)) in
-      let both = PrefixFree-file.one (m.start, (file.items, g.end)) (a.start, (a.file.items, a.end)) whole (whole ++ more) more [] file.spelled a.file.spelled e in
-      record {
-        records = same_all file a.file (ap (λ (p : WideParts). p.1.0) both.1);
-        end = ap (λ (p : WideParts). p.1.1) both.1;
-        none = after_same whole (whole ++ more) more [] both.0 e;
-      }
 
   end_placed : (e : Rejection) → e.place ≡ File g.at → (end_refusal limits (narrowed m.records) ≡ None → IsValid g.end.validation whole → ⊥) → IsPlaced limits dropping old e new
   end_placed e place torn = record {
@@ -249,12 +209,12 @@ module _ {C : Type 0} {t : Store C} {limits : Limits} {dropping : Dropping} {old
 
     by : (why ≡ Memory) ⊎ (end_refusal limits (narrowed m.records) ≡ Some why) → Stops limits dropping old e new
     by (inl memory) = (
-      judged_stopped m.takes (ForMemory (ap plain_of plain ∙ memory)),
+      judged_refused m.takes (ForMemory (ap plain_of plain ∙ memory)),
       memory_placed e whole m.takes (there_at old whole place) (ap plain_of plain ∙ memory),
       reasoned,
     )
     by (inr some) = (
-      judged_stopped m.takes (Decided (decided some) (λ more a. not some (ap (λ (ws : List WideRecord). end_refusal limits (narrowed ws)) (same more a.formed).records ∙ a.formed.whole))),
+      judged_refused m.takes (Decided (decided some) (λ more a. not some (ap (λ (ws : List WideRecord). end_refusal limits (narrowed ws)) (one_file more file a.formed.file refl).records ∙ a.formed.whole))),
       end_placed e place (λ none. absurd (not some none)),
       reasoned,
     )
@@ -268,15 +228,15 @@ module _ {C : Type 0} {t : Store C} {limits : Limits} {dropping : Dropping} {old
   -- END says wrongly that the file is complete
   pub signed_stops : (IsValid g.end.validation whole → ⊥) → Stops limits dropping old (at_file g.at wide.Checksum) new
   signed_stops wrong = (
-    judged_stopped m.takes (Decided refl (λ more a. wrong (valid more a))),
+    judged_refused m.takes (Decided refl (λ more a. wrong (valid more a))),
     end_placed (at_file g.at wide.Checksum) refl (λ none. wrong),
     whole_reasoned (at_file g.at wide.Checksum) refl (Unsound refl wrong),
   ) where
     valid : (more : List ℕ) → Preparable limits dropping (whole ++ more) → IsValid g.end.validation whole
     valid more a =
-        let s = same more a.formed in
+        let s = one_file more file a.formed.file refl in
         let there : IsValid a.formed.end.validation whole = subst (λ (b : List ℕ). IsValid a.formed.end.validation b) (ap (λ (c : List ℕ). whole ++ c) s.none ∙ append-nil whole) a.valid in
-        subst (λ (e : WideEnd). IsValid e.validation whole) (sym s.end) there
+        subst (λ (e : WideEnd). IsValid e.validation whole) (sym s.ends) there
 
   -- the records of a whole file
   unfoldable pub formed : end_refusal g.preparation.reader.limits (narrowed m.records) ≡ None → Formed limits dropping whole

@@ -3,7 +3,9 @@ use Rattle.std.proofs.Common.{◌≡◌, ℕ, [], ◌∷◌, ◌++◌, None, Som
 use Rattle.oas_num.specs.Reading.{ReadsValue}
 use Rattle.oas_num.specs.Script.{Script, Consumed}
 use Rattle.oas_num.specs.Ratio.{Ratio}
+use Rattle.oas_num.proofs.PrefixLemmas.{pair_then}
 use Rattle.oas_num.proofs.ReadLemmas.{Consumed-then}
+use Rattle.oas_num.proofs.RefusingLemmas.{Judges, ForMemory, Decided, judged_refused}
 use Rattle.oas_elements.specs.declared.limits.Limits.{Limits}
 use Rattle.oas_narrow.specs.Stores.{Store}
 use Rattle.oas_narrow.specs.WideEnd.{WideEnd}
@@ -16,7 +18,7 @@ use Rattle.oas_narrow.specs.declared.dropping.Dropping.{Dropping}
 use Rattle.oas_narrow.specs.declared.places.Place.{Place}
 use Rattle.oas_narrow.specs.declared.places.Place.TheVariants.{File}
 use Rattle.oas_narrow.specs.declared.places.Rejection.{Rejection}
-use Rattle.oas_narrow.specs.Preparable.{AllPrepared}
+use Rattle.oas_narrow.specs.Preparable.{AllPrepared, Preparable}
 use Rattle.oas_narrow.specs.WideFiles.{WidePrefixOf, inner_in, end_in, AsRecord}
 use Rattle.oas_prepare.specs.Gathering.{FailsOne, HasTakenOne, StopsOne, HasGathered, HasAll}
 use Rattle.oas_prepare.specs.Heads.{HasStarted}
@@ -25,9 +27,9 @@ use Rattle.oas_prepare.specs.Reasons.{DecidedAt, TheNext, IsReasoned}
 use Rattle.oas_prepare.specs.Run.{Stops, IsPlaced}
 use Rattle.oas_prepare.specs.Taking.{State, Stands, SameRun, IsStop, MayStop, obstacle_next}
 use Rattle.oas_prepare.proofs.Fronts.{allowed_last, allowed_more, prefix_allowed, front_more}
-use Rattle.oas_prepare.proofs.Refusing.{record_stops, Judges, ForMemory, Decided, judged_stopped, memory_placed, there_at}
+use Rattle.oas_prepare.proofs.Refusing.{record_stops, memory_placed, there_at}
 use Rattle.oas_prepare.proofs.Reasons.{obstacle_decides}
-use Rattle.oas_prepare.proofs.Items.{record_no_block, block_is}
+use Rattle.oas_prepare.proofs.Items.{record_no_block}
 use Rattle.oas_prepare.proofs.WideLaws.{PrefixFree-wide}
 
 -- after the head
@@ -108,7 +110,7 @@ module _ {C : Type 0} {t : Store C} {origin mid : Script} {head : WideStart} {fi
                 let same = ((PrefixFree-wide head.flag_in_end).one w q read.bytes front more rest read.spelled.spelled next.spelled.spelled j).1 in
                 not_prepared e.why some (subst (λ (k : WideRecord). AllPrepared limits dropping (m.records ++ k ∷ [])) (sym same) next.prepared);
           };
-          no_block = record { none = λ b front rest s j. record_no_block head.flag_in_end w b.0 read.bytes s.front more (s.back ++ rest) read.spelled s.first (j ∙ block_is rest s) };
+          no_block = record { none = λ b front rest s j. record_no_block head.flag_in_end w b.0 read.bytes s.front more (s.back ++ rest) read.spelled s.first (j ∙ pair_then s rest) };
         }));
       }
 
@@ -128,8 +130,8 @@ module _ {C : Type 0} {t : Store C} {origin mid : Script} {head : WideStart} {fi
       }
 
       next_stops : (at : ℕ) (e : Rejection) → e.place ≡ File at → at ≡ mid.given → MayStop limits dropping m.records w e.why → Stops limits dropping origin e new
-      next_stops at e place is reason = (judged_stopped both (judged reason), next_placed at e place is reason, next_reasoned at e place is reason) where
-        judged : MayStop limits dropping m.records w e.why → Judges limits dropping (m.bytes ++ read.bytes) e.why
+      next_stops at e place is reason = (judged_refused both (judged reason), next_placed at e place is reason, next_reasoned at e place is reason) where
+        judged : MayStop limits dropping m.records w e.why → Judges (Preparable limits dropping) (m.bytes ++ read.bytes) (plain_of e.why)
         judged (inl memory) = ForMemory (ap plain_of memory.0)
         judged (inr some) = Decided (obstacle_decides limits dropping m.records w e.why some) (λ more a. not_prepared e.why some (prefix_allowed more front a.formed))
 

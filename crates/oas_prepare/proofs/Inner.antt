@@ -6,7 +6,7 @@ use Rattle.std.proofs.lemmas.List.{append-nil, length-append, length-replicate, 
 use Rattle.oas_narrow.specs.Zeros.{StopsIn, StopsAt}
 use Rattle.oas_num.specs.Reading.{ReadsValue}
 use Rattle.oas_num.specs.Script.{Script, Rest, Gave, Consumed, slice_script}
-use Rattle.oas_num.proofs.ReadLemmas.{Consumed-none, Consumed-then}
+use Rattle.oas_num.proofs.ReadLemmas.{Consumed-none, Consumed-then, Consumed-still}
 use Rattle.oas_elements.specs.declared.limits.Limits.{Limits}
 use Rattle.oas_narrow.specs.Stores.{Store}
 use Rattle.oas_narrow.specs.WideRecord.{WideRecord}
@@ -16,7 +16,8 @@ use Rattle.oas_narrow.specs.WideFiles.{inner_in}
 use Rattle.oas_prepare.specs.Inside.{HasInner, IsLast}
 use Rattle.oas_prepare.specs.Places.{pads, NoPadLast, AsRun, AsOther}
 use Rattle.oas_prepare.specs.Taking.{State, Stands, SameRun, obstacle_next}
-use Rattle.oas_prepare.proofs.Fronts.{allowed_more, push}
+use Rattle.oas_num.proofs.GrammarLemmas.{IsEach-push}
+use Rattle.oas_prepare.proofs.Fronts.{allowed_more}
 use Rattle.oas_prepare.proofs.Items.{none_long}
 use Rattle.oas_prepare.proofs.Pads.{stands_pads, prepared_pads}
 use Rattle.oas_prepare.proofs.Runs.{each_more, each_pads, no_pad, zeros_begin, next_part, within_part}
@@ -126,9 +127,9 @@ module _ {C : Type 0} {t : Store C} {in_end : Bool} {first : State C} {records :
 
   -- nothing more was taken
   pub some_kept : {now : Script} → Consumed mid [] now → HasSome t in_end first records plain now p last
-  some_kept {now = now} takes = record {
+  some_kept takes = record {
     bytes = m.bytes;
-    takes = subst (λ (b : List ℕ). Consumed (source_of plain) b now) (append-nil m.bytes) (Consumed-then (source_of plain) mid now m.bytes [] m.takes takes);
+    takes = Consumed-still m.takes takes;
     made = m.made;
     ends = m.ends;
     runs = m.runs;
@@ -189,7 +190,7 @@ module _ {C : Type 0} {t : Store C} {in_end : Bool} {first : State C} {records :
     takes = Consumed-then (source_of plain) mid new m.bytes read.bytes m.takes read.takes;
     made = record {
       inner = m.made.inner ++ w ∷ [];
-      each = push (inner_in in_end) m.made.inner w m.bytes read.bytes m.made.each read.spelled;
+      each = IsEach-push (inner_in in_end) m.made.inner w m.bytes read.bytes m.made.each read.spelled;
       prepared = prepared;
       stands = subst (Stands t after) (append_assoc records m.made.inner (w ∷ [])) h.1;
       same = record {

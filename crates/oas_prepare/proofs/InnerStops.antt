@@ -9,7 +9,7 @@ use Rattle.oas_num.specs.Script.{Script, Rest, Consumed, IsAtEnd, HasFailed, IsT
 use Rattle.oas_num.proofs.PieceLemmas.{whole_piece}
 use Rattle.oas_record.specs.Found.{NoneIsSpelled}
 use Rattle.oas_canon.proofs.Whole.{Cause, Bytes, End, Device, Limit, Writer, Room, cause_of}
-use Rattle.oas_canon.proofs.Judged.{decides_format}
+use Rattle.oas_num.proofs.RefusingLemmas.{decides_format, ended_cut}
 use Rattle.oas_elements.specs.declared.limits.Limits.{Limits}
 use Rattle.oas_narrow.specs.Stores.{Store}
 use Rattle.oas_narrow.specs.WideWhy.{WideWhy}
@@ -31,7 +31,6 @@ use Rattle.oas_prepare.proofs.Fronts.{allowed_last}
 use Rattle.oas_prepare.proofs.Inner.{HasSome, here, then, left_is}
 use Rattle.oas_prepare.proofs.Items.{record_no_block, record_no_end}
 use Rattle.oas_prepare.proofs.Reasons.{obstacle_decides}
-use Rattle.oas_prepare.proofs.Refusing.{ended_cut}
 use Rattle.oas_prepare.proofs.Whole.{memory_is}
 use Rattle.oas_prepare.proofs.WideLaws.{PrefixFree-inner, wide_never}
 

@@ -1,10 +1,11 @@
 -- Laws of what comes in a file before END: a record, or a block of records.
 use Rattle.std.proofs.Common.{◌≡◌, ◌≢◌, ℕ, ◌<◌, Bool, List, [], ◌∷◌, ◌++◌, length, refl, sym, ap, subst, ◌∙◌, append_assoc, arith}
-use Rattle.std.proofs.lemmas.List.{append-nil}
+use Rattle.std.proofs.lemmas.List.{append-nil, length-append}
 use Rattle.oas_num.specs.Combinators.{IsApart}
 use Rattle.oas_num.specs.Grammar.{PrefixFree, IsEach}
-use Rattle.oas_num.specs.Integers.{IsClosed}
 use Rattle.oas_num.specs.Script.{Script, Consumed}
+use Rattle.oas_num.proofs.IntegerLemmas.{closed_long}
+use Rattle.oas_num.proofs.PrefixLemmas.{pair_then}
 use Rattle.oas_num.specs.Laws.GrammarLaws.{after_same, PrefixFree-pair}
 use Rattle.oas_narrow.specs.Blocks.{Represents}
 use Rattle.oas_narrow.proofs.OneLemmas.{one_block}
@@ -37,26 +38,18 @@ same_long (c ∷ a) (d ∷ b) x y n e =
     let rest = same_long a b x y (omega (arith, n)) tail in
     λ i. head i ∷ rest i
 
-some_long : (l : List ℕ) → l ≢ [] → 0 < length l
-some_long [] some = absurd (some refl)
-some_long (x ∷ l) some = omega arith
-
 -- ---- records
 
-closed_some : (bytes : List ℕ) → IsClosed bytes → bytes ≢ []
-closed_some [] h e = h
-closed_some (b ∷ bytes) h e = cc
-
 -- a record has at least one byte
-wide_some : (in_end : Bool) (w : WideRecord) (bytes : List ℕ) → wide_record_in in_end w bytes → bytes ≢ []
-wide_some in_end w bytes r e = let p = r.parts in closed_some p.front p.first.closed (front_none p.front p.back (sym p.joined ∙ e))
+wide_long : (in_end : Bool) (w : WideRecord) (bytes : List ℕ) → wide_record_in in_end w bytes → 0 < length bytes
+wide_long in_end w bytes r = let p = r.parts in omega (arith, ap length p.joined, length-append p.front p.back, closed_long p.front p.first.closed)
 
 -- so a read of one goes on
 pub wide_onward : (in_end : Bool) (w : WideRecord) {old new : Script} (bytes : List ℕ) → wide_record_in in_end w bytes → Consumed old bytes new → old.given < new.given
-wide_onward in_end w bytes r takes = omega (arith, takes.given, some_long bytes (wide_some in_end w bytes r))
+wide_onward in_end w bytes r takes = omega (arith, takes.given, wide_long in_end w bytes r)
 
 pub inner_some : (in_end : Bool) (w : WideRecord) (bytes : List ℕ) → inner_in in_end w bytes → bytes ≢ []
-inner_some in_end w bytes r = wide_some in_end w bytes r.spelled
+inner_some in_end w bytes r none = omega (arith, wide_long in_end w bytes r.spelled, ap length none)
 
 each_same : {V : Type 0} (A : V → List ℕ → Type 0) → PrefixFree A → ((v : V) (a : List ℕ) → A v a → a ≢ []) → (vs ws : List V) (a b : List ℕ) → IsEach A vs a → IsEach A ws b → a ≡ b → vs ≡ ws
 each_same A law some [] [] a b p q e = refl
@@ -86,10 +79,6 @@ PrefixFree-packed head = record {
 pub PrefixFree-block : (in_end : Bool) → PrefixFree (block_in in_end)
 PrefixFree-block in_end = PrefixFree-pair (head_in in_end) packed_by (PrefixFree-block_head in_end) PrefixFree-packed
 
--- a block begins with its head
-pub block_is : {in_end : Bool} {block : BlockHead × List ℕ} {bytes : List ℕ} (rest : List ℕ) (b : block_in in_end block bytes) → bytes ++ rest ≡ b.front ++ (b.back ++ rest)
-block_is rest b = ap (λ (c : List ℕ). c ++ rest) b.joined ∙ append_assoc b.front b.back rest
-
 -- a record is no block
 pub record_no_block : (in_end : Bool) (w : WideRecord) (head : BlockHead) (a b x y : List ℕ) → inner_in in_end w a → head_in in_end head b → a ++ x ≡ b ++ y → ⊥
 record_no_block in_end w head a b x y p q e = p.holds.no_block head ((PrefixFree-wide in_end).one w (Block head) a b x y p.spelled q e).1
@@ -109,7 +98,7 @@ block_no_end in_end head end a b x y p q e = head_not_end head end ((PrefixFree-
 
 mixed : (in_end : Bool) (w : WideRecord) (vs : List WideRecord) (a b x y : List ℕ) → inner_in in_end w a → is_block_of in_end vs b → a ++ x ≡ b ++ y → ⊥
 mixed in_end w vs a b x y p q e =
-    let s = q.spelled in record_no_block in_end w q.block.0 a s.front x (s.back ++ y) p s.first (e ∙ block_is y s)
+    let s = q.spelled in record_no_block in_end w q.block.0 a s.front x (s.back ++ y) p s.first (e ∙ pair_then s y)
 
 item_one : (in_end : Bool) (v w : List WideRecord) (a b x y : List ℕ) → item_in in_end v a → item_in in_end w b → a ++ x ≡ b ++ y → (a ≡ b) × (v ≡ w)
 item_one in_end v w a b x y (AsRecord r is p) (AsRecord s also q) e =
@@ -137,7 +126,7 @@ pub item_begins : (in_end : Bool) (ws : List WideRecord) (bytes rest : List ℕ)
 item_begins in_end ws bytes rest (AsRecord w is p) = record { value = w; front = bytes; more = rest; spelled = p.spelled; no_end = p.holds.no_end; joined = refl }
 item_begins in_end ws bytes rest (AsBlock p) =
     let s = p.spelled in
-    record { value = Block p.block.0; front = s.front; more = s.back ++ rest; spelled = s.first; no_end = head_not_end p.block.0; joined = block_is rest s }
+    record { value = Block p.block.0; front = s.front; more = s.back ++ rest; spelled = s.first; no_end = head_not_end p.block.0; joined = pair_then s rest }
 
 pub IsApart-item : (in_end : Bool) → IsApart (item_in in_end) (end_in in_end)
 IsApart-item in_end = record {
@@ -148,13 +137,12 @@ IsApart-item in_end = record {
 
 -- ---- lists of items
 
-pub records-more : (items tail : List (List WideRecord)) (ws : List WideRecord) → records_of ((items ++ ws ∷ []) ++ tail) ≡ records_of items ++ (ws ++ records_of tail)
-records-more [] tail ws = refl
-records-more (vs ∷ items) tail ws = ap (λ (rs : List WideRecord). vs ++ rs) (records-more items tail ws) ∙ sym (append_assoc vs (records_of items) (ws ++ records_of tail))
+pub records-append : (items tail : List (List WideRecord)) → records_of (items ++ tail) ≡ records_of items ++ records_of tail
+records-append [] tail = refl
+records-append (vs ∷ items) tail = ap (λ (rs : List WideRecord). vs ++ rs) (records-append items tail) ∙ sym (append_assoc vs (records_of items) (records_of tail))
 
 pub records-push : (items : List (List WideRecord)) (ws : List WideRecord) → records_of (items ++ ws ∷ []) ≡ records_of items ++ ws
-records-push [] ws = append-nil ws
-records-push (vs ∷ items) ws = ap (λ (rs : List WideRecord). vs ++ rs) (records-push items ws) ∙ sym (append_assoc vs (records_of items) ws)
+records-push items ws = records-append items (ws ∷ []) ∙ ap (λ (rs : List WideRecord). records_of items ++ rs) (append-nil ws)
 
 -- each record by itself
 abbrev pub alone : List WideRecord → List (List WideRecord)

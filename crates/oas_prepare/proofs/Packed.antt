@@ -14,8 +14,9 @@ use Rattle.oas_narrow.specs.Preparable.{AllPrepared}
 use Rattle.oas_narrow.specs.WideFiles.{inner_in, head_in, block_in}
 use Rattle.oas_prepare.specs.Inside.{NoData}
 use Rattle.oas_prepare.specs.Places.{StopsInData, IsVain}
-use Rattle.oas_prepare.proofs.Fronts.{Compared, Same, More, Less, compare, allowed_prefix}
-use Rattle.oas_prepare.proofs.Items.{front_none, none_long, same_long, inner_some, PrefixFree-block_head, block_is}
+use Rattle.oas_num.proofs.PrefixLemmas.{pair_then, Compared, Same, More, Less, compare}
+use Rattle.oas_prepare.proofs.Fronts.{allowed_prefix}
+use Rattle.oas_prepare.proofs.Items.{front_none, none_long, same_long, inner_some, PrefixFree-block_head}
 use Rattle.oas_prepare.proofs.WideLaws.{PrefixFree-inner}
 
 -- ---- bytes
@@ -41,7 +42,7 @@ pub record Behind (block : BlockHead) (plain bytes rest : List ℕ) : Type 0 whe
 pub behind : (in_end : Bool) (block : BlockHead) (begin bytes : List ℕ) (other : BlockHead × List ℕ) (front rest : List ℕ) → head_in in_end block begin → block_in in_end other front → begin ++ bytes ≡ front ++ rest →
     Behind block other.1 bytes rest
 behind in_end block begin bytes other front rest head b e =
-    let j : begin ++ bytes ≡ b.front ++ (b.back ++ rest) = e ∙ block_is rest b in
+    let j : begin ++ bytes ≡ b.front ++ (b.back ++ rest) = e ∙ pair_then b rest in
     let one = (PrefixFree-block_head in_end).one block other.0 begin b.front bytes (b.back ++ rest) head b.first j in
     record {
       packed = b.back;

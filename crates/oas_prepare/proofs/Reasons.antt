@@ -3,6 +3,7 @@ use Rattle.std.proofs.Common.{◌≡◌, ℕ, Bool, true, false, List, [], ◌�
 use Rattle.std.specs.Option.{option_or}
 use Rattle.std.specs.Prelude.{cond, Result, Ok, Err}
 use Rattle.oas_num.specs.declared.refusals.Why.{Why}
+use Rattle.oas_num.proofs.RefusingLemmas.{Reasons, none_in, some_in, or_in}
 use Rattle.oas_record.specs.declared.records.Record.{Record}
 use Rattle.oas_elements.specs.declared.limits.Limits.{Limits}
 use Rattle.oas_narrow.specs.Stands.{refusal}
@@ -25,16 +26,8 @@ use Rattle.oas_prepare.specs.Deciding.{decides}
 use Rattle.oas_prepare.specs.Taking.{obstacle_next}
 
 -- a reason, if there is one, is about the bytes
-record InBytes (o : Option WideWhy) : Type 0 where
-  decides : (why : WideWhy) → o ≡ Some why → IsTrue (decides why)
-
-none_in : InBytes None
-none_in = record { decides = λ why e. absurd cc }
-
-some_in : (why : WideWhy) → IsTrue (decides why) → InBytes (Some why)
-some_in why is = record { decides = λ other e. subst (λ (w : WideWhy). IsTrue (decides w)) (same why other e) is } where
-  same : (why other : WideWhy) → ◌≡◌ {A = Option WideWhy} (Some why) (Some other) → why ≡ other
-  same why other e = cc
+abbrev InBytes : Option WideWhy → Type 0
+InBytes = Reasons (λ (why : WideWhy). IsTrue (decides why))
 
 outside_in : (in_cell : Bool) (id : ℕ) → InBytes (outside in_cell id)
 outside_in true id = none_in
@@ -89,12 +82,8 @@ handed_in : (limits : Limits) (rs : List Record) (h : Result (List Record) WideW
 handed_in limits rs (Err why) p = some_in why (reason_decides why (p why refl))
 handed_in limits rs (Ok more) p = refused_in (refused_of limits rs more) (all_decide limits rs more)
 
-or_in : (one other : Option WideWhy) → InBytes one → InBytes other → InBytes (option_or one other)
-or_in None other p q = q
-or_in (Some why) other p q = p
-
 pub obstacle_decides : (limits : Limits) (dropping : Dropping) (ws : List WideRecord) (w : WideRecord) (why : WideWhy) → obstacle_next limits dropping ws w ≡ Some why → IsTrue (decides why)
 obstacle_decides limits dropping ws w why e =
     (or_in (obstacle_by dropping (is_open (reverse ws)) (role_of w)) (translated_obstacle limits (narrowed ws) (translated_after (reverse ws) w))
     (by_in dropping (is_open (reverse ws)) (role_of w))
-    (handed_in limits (narrowed ws) (translated_after (reverse ws) w) (handed_reason (kept_of (reverse ws)) (with_turns w)))).decides why e
+    (handed_in limits (narrowed ws) (translated_after (reverse ws) w) (handed_reason (kept_of (reverse ws)) (with_turns w)))).such why e

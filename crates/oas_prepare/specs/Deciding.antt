@@ -1,7 +1,7 @@
 -- Which reasons the bytes decide, by the reasons of the profile in their place.
 use Rattle.std.specs.Prelude.{Bool}
-use Rattle.oas_canon.specs.Reading as file
 use Rattle.oas_num.specs.Reading as num
+use Rattle.oas_num.specs.Refusing as file
 use Rattle.oas_narrow.specs.WideWhy.{WideWhy}
 use Rattle.oas_narrow.specs.Reasons.{plain_of}
 

@@ -1,8 +1,9 @@
 -- What preparing a file does.
-use Rattle.std.specs.Prelude.{◌≡◌, ◌≢◌, ℕ, false, List, [], ◌++◌, length, Option, Some, None, Result, Ok, Err, IsTrue, ◌⊎◌}
+use Rattle.std.specs.Prelude.{◌≡◌, ℕ, false, List, [], ◌++◌, length, Option, Some, None, Result, Ok, Err, IsTrue, ◌⊎◌}
 use Rattle.oas_num.specs.Devices.{Calls, TakesAll, FailsAfter}
-use Rattle.oas_num.specs.declared.refusals.Why.TheVariants.{Truncated, Read, InputTooLong, Write, Memory}
-use Rattle.oas_num.specs.Script.{Script, Rest, Consumed, IsAtEnd, HasFailed, IsTooLong}
+use Rattle.oas_num.specs.declared.refusals.Why.TheVariants.{Write, Memory}
+use Rattle.oas_num.specs.Refusing.{IsRefusedBy}
+use Rattle.oas_num.specs.Script.{Script, Rest, Consumed, IsAtEnd}
 use Rattle.oas_elements.specs.declared.limits.Limits.{Limits}
 use Rattle.oas_elements.specs.declared.profile.Profile.{Profile}
 use Rattle.oas_elements.specs.Meaning.{Meaning, SameLayout}
@@ -17,7 +18,7 @@ use Rattle.oas_narrow.specs.declared.places.Rejection.{Rejection}
 use Rattle.oas_narrow.specs.Reasons.{plain_of}
 use Rattle.oas_narrow.specs.Narrowing.{report_of}
 use Rattle.oas_narrow.specs.Preparable.{Formed, Preparable, WideMeans, IsValid}
-use Rattle.oas_prepare.specs.Deciding.{decides, is_of_file, is_cut}
+use Rattle.oas_prepare.specs.Deciding.{is_of_file}
 use Rattle.oas_prepare.specs.Places.{StopsAt, IsPlace}
 use Rattle.oas_prepare.specs.Reasons.{IsReasoned}
 
@@ -59,15 +60,8 @@ pub record IsCut (limits : Limits) (profile : Profile) (dropping : Dropping) (ol
 
 -- No file that is prepared begins with what was taken, or the source has ended and what was taken is none, or a device or the
 -- memory failed. Where the input was cut off, no file that is prepared goes on from what was taken.
-pub record IsStopped (limits : Limits) (dropping : Dropping) (old : Script) (why : WideWhy) (new : Script) : Type 0 where
-  pub bytes : List ℕ
-  pub takes : Consumed old bytes new
-  pub decided : IsTrue (decides why) → (more : List ℕ) → Preparable limits dropping (bytes ++ more) → ⊥
-  pub cut : IsTrue (is_cut why) → (front rest : List ℕ) → front ++ rest ≡ bytes → Preparable limits dropping front → rest ≡ []
-  pub truncated : plain_of why ≡ Truncated → (Preparable limits dropping bytes → ⊥) × IsAtEnd new
-  pub device : plain_of why ≡ Read → HasFailed new
-  pub too_long : plain_of why ≡ InputTooLong → IsTooLong new
-  pub reading : plain_of why ≢ Write
+abbrev pub IsStopped : Limits → Dropping → Script → WideWhy → Script → Type 0
+IsStopped limits dropping old why new = IsRefusedBy (Preparable limits dropping) old (plain_of why) new
 
 -- The rejection's place is in the file, or in a block that is there. Where the source had given nothing before: it is one at
 -- which each file stops that continues what was taken; where the source has ended, nothing continues it.

@@ -34,6 +34,7 @@ pub(crate) struct Gathered<R> {
 /// Takes the next record, which starts at byte `at`. A polygon or a path at hand is read the faster way.
 ///
 /// It is a function of its own since whole records are moved here, and a call begins by clearing room for each of them.
+#[inline(never)]
 fn take_other<S: Source, C: CellStore>(
     alloc: Global,
     source: &mut S,
@@ -63,8 +64,9 @@ fn take_other<S: Source, C: CellStore>(
     }
 }
 
-/// The same, where also a rectangle, a placement or a text at hand is read the faster way.
-pub(crate) fn take_next<S: Source, C: CellStore>(
+/// The same, where also a rectangle at hand is read the faster way.
+#[inline(never)]
+fn take_rectangle<S: Source, C: CellStore>(
     alloc: Global,
     source: &mut S,
     flag_in_end: bool,
@@ -79,6 +81,21 @@ pub(crate) fn take_next<S: Source, C: CellStore>(
         preparation.take_rectangle(alloc, at, found.rectangle)?;
         return Ok(Next::Taken);
     }
+    take_other(alloc, source, flag_in_end, at, preparation)
+}
+
+/// The same, where also a placement or a text at hand is read the faster way.
+#[inline(never)]
+fn take_named<S: Source, C: CellStore>(
+    alloc: Global,
+    source: &mut S,
+    flag_in_end: bool,
+    at: u64,
+    preparation: &mut Preparation<Reader<C>>,
+) -> Result<Next, Rejection>
+    requires { at ≡ (S.script source.old).given }
+    ensures { ConsumesNext C.store flag_in_end (S.script source.old) preparation.old result (S.script source.new) preparation.new }
+{
     if let Some(found) = peek_named(source.ahead()) {
         let length = found.length;
         let taken = preparation.take_named(at, &found.element);
@@ -87,6 +104,25 @@ pub(crate) fn take_next<S: Source, C: CellStore>(
         return Ok(Next::Taken);
     }
     take_other(alloc, source, flag_in_end, at, preparation)
+}
+
+/// The same, by the faster way of its kind.
+#[inline(always)]
+pub(crate) fn take_next<S: Source, C: CellStore>(
+    alloc: Global,
+    source: &mut S,
+    flag_in_end: bool,
+    at: u64,
+    preparation: &mut Preparation<Reader<C>>,
+) -> Result<Next, Rejection>
+    requires { at ≡ (S.script source.old).given }
+    ensures { ConsumesNext C.store flag_in_end (S.script source.old) preparation.old result (S.script source.new) preparation.new }
+{
+    match source.ahead() {
+        [20, ..] => take_rectangle(alloc, source, flag_in_end, at, preparation),
+        [17 | 19, ..] => take_named(alloc, source, flag_in_end, at, preparation),
+        _ => take_other(alloc, source, flag_in_end, at, preparation),
+    }
 }
 
 /// Takes the records up to END, and returns END and its offset.

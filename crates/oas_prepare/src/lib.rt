@@ -35,7 +35,7 @@
 //!   spells that record among those of the standard (`laws::records` of oas_standard), so it is what the slower read would
 //!   return (proofs/AtHand.antt). As in oas_file, a rectangle, a placement or a text is then no whole record.
 //!   proofs/Fronts.antt, Refusing.antt, Gathered.antt and Ending.antt correspond to the files of the same kind in oas_file,
-//!   whose records are those of the profile.
+//!   whose records are those of the profile; what holds of both is proved in oas_num (PrefixLemmas, RefusingLemmas).
 //! - src/inside.rt: a block. Its data are read into memory, at most 2^30 bytes of them, and their records are taken from
 //!   there as those of the file are from its source (proofs/Inner.antt and InnerStops.antt). Only a run of PADs is taken at
 //!   once: proofs/Pads.antt says that a PAD changes nothing, Runs.antt where a run begins. Then its place is put before

@@ -1,10 +1,12 @@
 -- A file that was read, and whether it is the canonical file that it is prepared to.
 use Rattle.std.specs.Prelude.{◌↔◌}
-use Rattle.std.proofs.Common.{◌≡◌, ℕ, ◌-◌, Bool, List, ◌++◌, length, IsTrue, Ok, Err, inl, refl, sym, ap, ◌∙◌, append_assoc, arith}
+use Rattle.std.proofs.Common.{◌≡◌, ℕ, ◌-◌, Bool, List, ◌++◌, length, IsTrue, Ok, Err, inl, refl, sym, ap, ◌∙◌, arith}
 use Rattle.std.proofs.lemmas.List.{length-append}
 use Rattle.oas_num.specs.declared.refusals.Why.TheVariants.{Memory}
 use Rattle.oas_num.specs.Script.{Script, Consumed}
+use Rattle.oas_num.proofs.PrefixLemmas.{file_before, file_front, file_joined}
 use Rattle.oas_num.proofs.ReadLemmas.{Consumed-one}
+use Rattle.oas_num.proofs.RefusingLemmas.{ForMemory, judged_refused}
 use Rattle.oas_elements.specs.declared.limits.Limits.{Limits}
 use Rattle.oas_elements.specs.Contents.{Contents, meaning_of}
 use Rattle.oas_explain.specs.ProfileConstants.{PROFILE}
@@ -19,7 +21,8 @@ use Rattle.oas_prepare.specs.WideFiles.{WideFileOf, WidePrefixOf, end_in}
 use Rattle.oas_prepare.specs.Finishing.{IsReadPrepared}
 use Rattle.oas_prepare.specs.Reasons.{Torn, TheWhole, IsReasoned}
 use Rattle.oas_prepare.specs.Run.{Stops}
-use Rattle.oas_prepare.proofs.Refusing.{ForMemory, judged_stopped, memory_placed}
+use Rattle.oas_prepare.proofs.Fronts.{parts as of_file}
+use Rattle.oas_prepare.proofs.Refusing.{memory_placed}
 use Rattle.oas_prepare.proofs.Whole.{taken, exactly_done, exactly_stopped}
 use Rattle.oas_preparing.specs.Checks.{ChecksPrepared, unkept}
 use Rattle.oas_preparing.proofs.EndLemmas.{end_length}
@@ -35,16 +38,13 @@ record Parts (start : WideStart) (ws : List WideRecord) (end : WideEnd) (bytes :
   joined : bytes ≡ before ++ last
 
 parts_of : {start : WideStart} {ws : List WideRecord} {end : WideEnd} {bytes : List ℕ} → WideFileOf start ws end bytes → Parts start ws end bytes
-parts_of f =
-    let head = f.spelled in
-    let rest = f.spelled.second in
-    record {
-      before = head.front ++ rest.front;
-      last = rest.back;
-      front = record { items = f.items; all = f.all; start = head.front; body = rest.front; begun = head.first; each = rest.first; joined = refl };
-      ends = rest.second;
-      joined = head.joined ∙ ap (λ (c : List ℕ). head.front ++ c) rest.joined ∙ sym (append_assoc head.front rest.front rest.back);
-    }
+parts_of f = record {
+  before = file_before of_file f.spelled;
+  last = f.spelled.second.back;
+  front = record { items = f.items; all = f.all; spelled = file_front of_file f.spelled };
+  ends = f.spelled.second.second;
+  joined = file_joined of_file f.spelled;
+}
 
 -- ---- what was found
 
@@ -65,7 +65,7 @@ module _ {limits : Limits} {dropping : Dropping} {old new : Script} where
 
     -- it was not kept
     pub not_kept : ChecksPrepared limits dropping old (Err (unkept new.given)) new
-    not_kept = unchecked e (judged_stopped read.takes (ForMemory refl), memory_placed e read.bytes read.takes tt refl, reasoned) where
+    not_kept = unchecked e (judged_refused read.takes (ForMemory refl), memory_placed e read.bytes read.takes tt refl, reasoned) where
       e : Rejection
       e = unkept new.given
 

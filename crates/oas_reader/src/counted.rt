@@ -44,6 +44,7 @@ impl Model for CountedCell {
 
 impl CountedCell {
     /// Counts something that is drawn this many times, and the uses of its number, if it has one.
+    #[inline]
     fn count_up(&mut self, drawn: &Drawn, times: u64) -> Result<(), AllocError>
         requires { self.old.count + times < 2 ^ 64 }
         ensures ok { OnOk result (self.new ≡ record self.old
@@ -60,6 +61,7 @@ impl CountedCell {
     }
 
     /// Counts something without a repetition, and the use of its number, if it has one.
+    #[inline]
     fn count_once(&mut self, drawn: &DrawnOnce<'_>) -> Result<(), AllocError>
         requires { self.old.count + 1 < 2 ^ 64 }
         ensures ok { OnOk result (self.new ≡ record self.old

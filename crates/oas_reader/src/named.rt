@@ -12,6 +12,7 @@ use oas_num::Why;
 use oas_peek::NamedOnce;
 
 /// Draws a placement or a text without a repetition in the open cell. Other refusals come before out of memory.
+#[inline(always)]
 pub(crate) fn accept_named<S: CellStore>(
     parts: &mut Parts<S>,
     next: &NamedOnce<'_>,

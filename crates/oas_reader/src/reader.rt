@@ -94,6 +94,7 @@ impl<S: CellStore> Reader<S> {
     /// Takes one more record, which starts at byte `at`. It is refused as `refusal` says, with the first reason of several;
     /// END with `OutOfPlace`, as the caller handles it (own rule). It fails with `Memory` only where it isn't refused
     /// otherwise, or for a copy outside the grid. After a refusal each call returns the same refusal.
+    #[inline(always)]
     pub fn take(&mut self, at: u64, next: Record) -> Result<(), Refusal>
         ensures again { (e : OneRefusal) → self.old.failed ≡ Some e → (result ≡ Err e) × (self.new ≡ self.old) }
         ensures failed { IfErr result (λ e. self.new.failed ≡ Some e) }
@@ -117,6 +118,7 @@ impl<S: CellStore> Reader<S> {
     /// Takes a rectangle without a repetition, as [`Reader::take`] takes its record: what the reader then represents, and
     /// what it refuses, are the same. Such rectangles are often most of a file; this moves no record and has no loop over
     /// copies. One outside a cell is refused with `OutOfPlace`.
+    #[inline(always)]
     pub fn take_rectangle(&mut self, at: u64, next: Rectangle) -> Result<(), Refusal>
         requires { next.spot.repetition ≡ None }
         ensures again { (e : OneRefusal) → self.old.failed ≡ Some e → (result ≡ Err e) × (self.new ≡ self.old) }
@@ -141,6 +143,7 @@ impl<S: CellStore> Reader<S> {
     /// Takes a placement or a text without a repetition, whose name, if it gives one, is valid, as [`Reader::take`] takes its
     /// record: what the reader then represents, and what it refuses, are the same. No record is built, and a name only where
     /// none was modal.
+    #[inline(always)]
     pub fn take_named(&mut self, at: u64, next: &NamedOnce<'_>) -> Result<(), Refusal>
         requires { HasValidName next.now }
         ensures again { (e : OneRefusal) → self.old.failed ≡ Some e → (result ≡ Err e) × (self.new ≡ self.old) }

@@ -152,6 +152,7 @@ fn take_other<S: CellStore>(parts: &mut Parts<S>, next: Record) -> Result<(), Wh
 }
 
 /// Draws a rectangle without a repetition in the open cell, so there is no loop over copies.
+#[inline(always)]
 pub(crate) fn accept_rectangle<S: CellStore>(
     parts: &mut Parts<S>,
     next: &mut Rectangle,

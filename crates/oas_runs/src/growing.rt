@@ -58,6 +58,7 @@ impl Growing {
     }
 
     /// Puts an entry at the end.
+    #[inline(always)]
     pub fn append(&mut self, alloc: Global, key: &[u8], times: u64) -> Result<(), AllocError>
         ensures ok { OnOk result (self.new ≡ self.old ++ (key.now, times) ∷ []) }
         ensures err { OnErr result (self.new ≡ self.old) }
@@ -107,6 +108,7 @@ pub fn size_with(size: usize, key: &[u8]) -> usize {
 }
 
 /// Puts the last block among the full ones, and begins another with an entry; or changes nothing.
+#[inline(never)]
 fn begin_block(
     alloc: Global,
     full: &mut Blocks,

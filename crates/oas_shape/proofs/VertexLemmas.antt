@@ -108,6 +108,12 @@ module _ {running : Bool} {deltas : List GDelta} {at : Point} {points : List Poi
   pub walked_all : length deltas ≤ index → points ≡ listed_vertices running deltas at
   walked_all le = sym (append-nil points) ∙ ap (λ (ds : List GDelta). points ++ points_after last (displaced running by ds)) (sym (drop_all index deltas le)) ∙ w.so_far
 
+-- one more vertex of a list that isn't running
+pub plain_more : {deltas : List GDelta} {at : Point} {points : List Point} {last : Point} {by : GDelta} {index : ℕ} → Walked false deltas at points last by index
+    → (d : GDelta) (next : Point) → index < length deltas → IsInRange (moved last (get_or deltas index d)) → next ≡ moved last (get_or deltas index d)
+    → (after : GDelta) × Walked false deltas at (points ++ next ∷ []) next after (index + 1)
+plain_more {deltas} {index = index} w d next lt near e = (get_or deltas index d, walked_more w d (get_or deltas index d) next lt refl near e)
+
 -- the last of some points
 last_item : (p q d : Point) (qs : List Point) → get_or (q ∷ qs) (length qs) d ≡ last_after p (q ∷ qs)
 last_item p q d [] = refl

@@ -1,5 +1,5 @@
 //! The vertices of a point list.
-ghost use Rattle.std.specs.Prelude.{◌≡◌, ◌+ℤ◌, ◌^◌, IfOk, IfErr, SomeIff};
+ghost use Rattle.std.specs.Prelude.{◌≡◌, ◌+ℤ◌, ◌^◌, false, IfOk, IfErr, SomeIff};
 ghost use Rattle.std.specs.List.{AllByRecursion};
 ghost use Rattle.std.specs.Option.{option_to_list};
 ghost use Rattle.oas_num.specs.Deltas.{step};
@@ -13,7 +13,7 @@ use oas_ring::Point;
 use std::alloc::Global;
 
 /// How far a coordinate may be from 0 (own rule).
-const FURTHEST: i128 = 1152921504606846976;
+const FURTHEST: i64 = 1152921504606846976;
 
 impl PointList {
     /// All vertices at that position, which is the first (SEMI P39, Point lists). It fails with `CoordinateRange` where one
@@ -38,6 +38,48 @@ impl PointList {
 
 /// The vertices that the deltas reach, one after another, in memory that has room for this many.
 fn walk(
+    alloc: Global,
+    deltas: &[GDelta],
+    running: bool,
+    at: Point,
+    room: usize,
+) -> Result<Vec<Point>, Why>
+    requires { IsInRange at }
+    ensures given { IfOk result (λ points. points.items ≡ listed_vertices running deltas.now at) }
+    ensures near { IfOk result (λ points. AllByRecursion IsInRange points.items) }
+    ensures refused { IfErr result (λ why. VerticesMay why (listed_vertices running deltas.now at)) }
+{
+    if running {
+        walk_displaced(alloc, deltas, running, at, room)
+    } else {
+        walk_plain(alloc, deltas, at, room)
+    }
+}
+
+/// The same of a list whose deltas are the steps from one vertex to the next, as in nearly all lists. They have 64 bits.
+fn walk_plain(alloc: Global, deltas: &[GDelta], at: Point, room: usize) -> Result<Vec<Point>, Why>
+    requires { IsInRange at }
+    ensures given { IfOk result (λ points. points.items ≡ listed_vertices false deltas.now at) }
+    ensures near { IfOk result (λ points. AllByRecursion IsInRange points.items) }
+    ensures refused { IfErr result (λ why. VerticesMay why (listed_vertices false deltas.now at)) }
+{
+    let Ok(mut points) = Vec::with_capacity(alloc, room) else {
+        return Err(Why::Memory);
+    };
+    points.push(at)?;
+    let mut last = at;
+    for delta in deltas {
+        let Some(next) = point_after(last, *delta) else {
+            return Err(Why::CoordinateRange);
+        };
+        points.push(next)?;
+        last = next;
+    }
+    Ok(points)
+}
+
+/// The same of any list, by displacements, which may have more than 64 bits.
+fn walk_displaced(
     alloc: Global,
     deltas: &[GDelta],
     running: bool,
@@ -101,13 +143,45 @@ fn coordinate_from(from: i64, far: i128) -> Option<i64>
     ensures { SomeIff result (IsBounded (2 ^ 60) (from +ℤ far)) (from +ℤ far) }
 {
     let to = i128::from(from) + far;
+    if to < -i128::from(FURTHEST) {
+        return None;
+    }
+    if to > i128::from(FURTHEST) {
+        return None;
+    }
+    Some(to as i64)
+}
+
+/// A coordinate, where it is within the limits.
+#[inline(always)]
+fn coordinate(to: i64) -> Option<i64>
+    ensures { SomeIff result (IsBounded (2 ^ 60) to) to }
+{
     if to < -FURTHEST {
         return None;
     }
     if to > FURTHEST {
         return None;
     }
-    Some(to as i64)
+    Some(to)
+}
+
+/// The coordinate after a step from that one, where it is within the limits.
+#[inline(always)]
+fn coordinate_after(from: i64, by: i64) -> Option<i64>
+    ensures { SomeIff result (IsBounded (2 ^ 60) (from +ℤ by)) (from +ℤ by) }
+{
+    coordinate(from.checked_add(by)?)
+}
+
+/// The point after a step from that one, where it is within the limits.
+#[inline(always)]
+fn point_after(from: Point, delta: GDelta) -> Option<Point>
+    ensures { SomeIff result (IsInRange (moved from delta)) (moved from delta) }
+{
+    let x = coordinate_after(from.x, delta.dx)?;
+    let y = coordinate_after(from.y, delta.dy)?;
+    Some(Point { x, y })
 }
 
 /// The vertex that a list leaves out, from its first and its last one.

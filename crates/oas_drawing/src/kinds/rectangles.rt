@@ -23,6 +23,7 @@ use oas_ring::Point;
 impl ModalVariables {
     /// What a rectangle sets. A square also sets the height, to its width, which may be the modal one. A repetition is moved
     /// out of it.
+    #[inline(always)]
     pub fn draw_rectangle(&mut self, drawn: &mut Rectangle)
         requires { IsNear self.old.geometry }
         ensures { self.new ≡ stepped self.old (OneRecord.Rectangle drawn.old) }
@@ -77,6 +78,7 @@ impl ModalVariables {
     ///
     /// It is refused with `ModalUndefined`, `TooManyElements`, `TooHeavy` and `CoordinateRange`, in this order, and is never
     /// out of memory. Its position is then within the limits.
+    #[inline(always)]
     pub fn one_rectangle(&self, limits: Limits, count: u64, weight: u64) -> Result<Drawn, Why>
         requires few { count ≤ limits.elements }
         requires light { weight ≤ limits.weight }

@@ -18,6 +18,7 @@ use std::alloc::Global;
 const FURTHEST: i128 = 1 << 60;
 
 /// A coordinate, where it is within the grid.
+#[inline(always)]
 pub(crate) fn coordinate(z: i128) -> Option<i64>
     ensures { SomeIff result (is_coordinate z ≡ true) z }
 {

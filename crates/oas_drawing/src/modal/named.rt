@@ -22,6 +22,7 @@ use oas_record::{CellRef, TextRef, Turn};
 use std::alloc::{AllocError, Global};
 
 /// The weight of a placement with the cell that it gives, or else the modal one; None where there is neither.
+#[inline(always)]
 fn weight_placed(given: &Given<'_>, modal: &Option<CellRef>) -> Option<u64>
     ensures { result ≡ cell_weight (option_or (cell_given given.now) modal.now) }
 {
@@ -36,6 +37,7 @@ fn weight_placed(given: &Given<'_>, modal: &Option<CellRef>) -> Option<u64>
 }
 
 /// The weight of a text with the string that it gives, or else the modal one; None where there is neither.
+#[inline(always)]
 fn weight_written(given: &Given<'_>, modal: &Option<TextRef>) -> Option<u64>
     ensures { result ≡ string_weight (option_or (string_given given.now) modal.now) }
 {
@@ -51,6 +53,7 @@ fn weight_written(given: &Given<'_>, modal: &Option<TextRef>) -> Option<u64>
 
 /// Refuses one more element with this weight and position, with `TooManyElements`, `TooHeavy` and `CoordinateRange`, in this
 /// order. Before it there are `count` elements with weight `weight`.
+#[inline(always)]
 fn check_once(one: u64, at: Position, limits: Limits, count: u64, weight: u64) -> Result<(), Why>
     requires few { count ≤ limits.elements }
     requires light { weight ≤ limits.weight }
@@ -71,6 +74,7 @@ fn check_once(one: u64, at: Position, limits: Limits, count: u64, weight: u64) -
 
 impl ModalVariables {
     /// What a placement or a text sets, except its name.
+    #[inline(always)]
     pub fn set_fields(&mut self, next: &NamedOnce<'_>)
         requires placement { IsNear self.old.placement }
         requires text { IsNear self.old.text }
@@ -96,6 +100,7 @@ impl ModalVariables {
 
     /// Refuses a placement or a text whose other fields are set, with `ModalUndefined`, `TooManyElements`, `TooHeavy` and
     /// `CoordinateRange`, in this order. Before it there are `count` elements with weight `weight`.
+    #[inline(always)]
     pub fn check_named(
         &self,
         next: &NamedOnce<'_>,
@@ -130,6 +135,7 @@ impl ModalVariables {
     }
 
     /// Makes the name that a placement or a text gives the modal one, in the memory of that one where it is enough.
+    #[inline(always)]
     pub fn set_name(&mut self, alloc: Global, next: &NamedOnce<'_>) -> Result<(), AllocError>
         requires { HasValidName next.now }
         ensures { OnOk result (self.new ≡ named_by self.old next.now) }
@@ -142,6 +148,7 @@ impl ModalVariables {
 
     /// What such a record draws, by the modal variables after it; None only where one that it needs is undefined, or it is
     /// outside the grid.
+    #[inline(always)]
     pub fn one_named(&self, next: &NamedOnce<'_>) -> Option<DrawnOnce<'_>>
         ensures some { IfSome result (λ d. drawn_by self.now (named_kind next.now) still ≡ Some (drawn_once d)) }
         ensures near { IfSome result (λ _. IsNear (place_of self.now (named_kind next.now))) }
@@ -167,6 +174,7 @@ impl ModalVariables {
 }
 
 /// Makes the cell that is given, if one is, the modal one.
+#[inline(always)]
 fn set_cell(alloc: Global, modal: &mut Option<CellRef>, given: &Given<'_>) -> Result<(), AllocError>
     requires { HasValidCell given.now }
     ensures { OnOk result (modal.new ≡ option_or (cell_given given.now) modal.old) }
@@ -183,6 +191,7 @@ fn set_cell(alloc: Global, modal: &mut Option<CellRef>, given: &Given<'_>) -> Re
 }
 
 /// Makes the string that is given, if one is, the modal one.
+#[inline(always)]
 fn set_string(
     alloc: Global,
     modal: &mut Option<TextRef>,

@@ -13,7 +13,7 @@ positive_part zero q n some e = absurd (omega (arith, e))
 positive_part (suc p) q n some e = omega arith
 
 -- the quotients have no common divisor
-coprime_parts : (p q a b g : ℕ) → 0 < g → p * g ≡ a → q * g ≡ b → IsGcd a b g → IsGcd p q 1
+pub coprime_parts : (p q a b g : ℕ) → 0 < g → p * g ≡ a → q * g ≡ b → IsGcd a b g → IsGcd p q 1
 coprime_parts p q a b g some e f h = (
   one-dvd p,
   one-dvd q,
@@ -24,7 +24,7 @@ coprime_parts p q a b g some e f h = (
       dvd_of_mul-dvd-mul_right {k = g} d {n = 1} some (rw (one-mul g) w),
 )
 
-value_same : (p q a b g : ℕ) → p * g ≡ a → q * g ≡ b → p * b ≡ a * q
+pub value_same : (p q a b g : ℕ) → p * g ≡ a → q * g ≡ b → p * b ≡ a * q
 value_same p q a b g e f = rw (← e, ← f) (grind arith)
 
 reduced_by : (p q a b g : ℕ) → 0 < a → 0 < b → IsGcd a b g → p * g ≡ a → q * g ≡ b → Reduces a b (record { num = p; den = q })

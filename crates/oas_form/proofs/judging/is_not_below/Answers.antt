@@ -1,7 +1,6 @@
 use Rattle.std.proofs.Common.{◌≡◌, Bool, true, false, not, Option, IsTrue, ◌↔◌, is_gt, refl, ap, sym, ◌∙◌, subst}
 use Rattle.oas_elements.specs.declared.element.Element.{Element}
 use Rattle.oas_elements.specs.Element.{element_cmp}
-use Rattle.oas_elements.specs.Laws.ElementLaws.{order_is_stated, derived_cmp}
 use Rattle.oas_form.specs.Judging.{IsNotBelow}
 use Rattle.oas_form.proofs.judging.is_not_below.Goals as goal
 
@@ -11,8 +10,6 @@ decided false = (λ t. refl, λ e. refl)
 
 pub returns-in-Some : goal.returns-in-Some
 returns-in-Some c =
-    let a : c.cmp.result ≡ derived_cmp c.in-Some.before c.args.element.now = c.cmp.ensures in
-    let b : c.is_gt.result ≡ is_gt c.cmp.result = c.is_gt.ensures in
-    let d : c.is_gt.result ≡ is_gt (element_cmp c.in-Some.before c.args.element.now) = b ∙ ap is_gt (a ∙ order_is_stated c.in-Some.before c.args.element.now) in
+    let d : c.is_gt.result ≡ is_gt (element_cmp c.in-Some.before c.args.element.now) = c.is_gt.ensures ∙ ap is_gt c.element_order.ensures in
     subst (λ (o : Option Element). IsTrue (not c.is_gt.result) ↔ IsNotBelow o c.args.element.now) (sym c.in-Some.is)
     (subst (λ (r : Bool). IsTrue (not c.is_gt.result) ↔ (r ≡ false)) d (decided c.is_gt.result))

@@ -9,8 +9,8 @@ loop-init c =
 
 pub loop-preserved : goal.loop-preserved
 loop-preserved c =
-    let e : c.push.new.self.items ≡ c.loop.steps.items ++ c.in_ok-take_step.field-0 ∷ [] = search rules in
-    rw e (one_more _ _ _ c.loop.invariant c.in_ok-take_step.ensures)
+    let e : c.push_step.new.steps.items ≡ c.loop.steps.items ++ c.in_ok-step.step ∷ [] = search rules in
+    rw e (one_more _ _ _ c.loop.invariant c.in_ok-step.ensures)
 
 pub returns : goal.returns
 returns c = all_taken _ _ (omega (arith, c.loop-test.false, c.loop.auto.counter-end)) _ c.loop.invariant

@@ -1,5 +1,5 @@
 use Rattle.oas_shape.proofs.VertexLemmas.{walked_none, walked_more, walked_past}
-use Rattle.oas_shape.proofs.vertices.walk.Goals as goal
+use Rattle.oas_shape.proofs.vertices.walk_displaced.Goals as goal
 
 pub loop-delta-init : goal.loop-delta-init
 loop-delta-init c = rw (c.in_ok-push.ensures.items, c.in-Ok.ensures.items) (walked_none _ _ _ c.requires)
