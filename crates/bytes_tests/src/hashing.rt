@@ -1,6 +1,6 @@
 //! Digests that are known from outside.
 
-use oas_hash::Sha256;
+use oas_checksum::Sha256;
 use std::test::Fail;
 
 /// Texts, and their digests as FIPS 180-4's examples or Python's hashlib give them.

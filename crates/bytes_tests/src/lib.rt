@@ -6,7 +6,7 @@
 //! |---|---|
 //! | streams | oas_bytes: readers that give few bytes a call, writers that take few, and the result where they fail |
 //! | checksums | oas_checksum: sums that are known from outside |
-//! | hashing | oas_hash: digests that are known from outside |
+//! | hashing | oas_checksum: digests that are known from outside |
 //! | inflating | oas_inflate and oas_inflated: streams of zlib's |
 //! | numbers | oas_num: the values of spellings that are known from outside, and refusals as they are printed |
 //! | rings | oas_ring: readings of rings that are known from outside or found by trying all |

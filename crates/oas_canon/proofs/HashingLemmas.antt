@@ -1,6 +1,6 @@
 -- A sink that hashes: one more byte, and all of a layout's bytes.
 use Rattle.std.proofs.Common.{◌≡◌, ℕ, List, [], ◌∷◌, ◌++◌, Result, Ok, Err, sym, append_assoc, append-nil, arith}
-use Rattle.oas_hash.specs.Hashing.{Holds256}
+use Rattle.oas_checksum.specs.Hashing.{Holds256}
 use Rattle.oas_num.specs.SinkFault.{SinkFault}
 use Rattle.oas_num.specs.Writing.{Puts, Writes}
 use Rattle.oas_judge.specs.Putting.{Counts}

@@ -1,6 +1,6 @@
 -- What a sink that hashes was given.
 use Rattle.std.specs.Prelude.{◌≡◌, ℕ, List, ◌++◌, take}
-use Rattle.oas_hash.specs.Hashing.{Holds256}
+use Rattle.oas_checksum.specs.Hashing.{Holds256}
 use Rattle.oas_canon.specs.declared.hashing.Hasher.{Hasher}
 
 -- this message so far: what was hashed of it, and then what the window holds

@@ -1,9 +1,9 @@
 //! A sink that hashes.
 ghost use Rattle.std.specs.Prelude.{◌≡◌, ℕ, List, [], ◌∷◌, ◌+◌, ◌≤◌, ◌<◌, length};
 ghost use Rattle.sha2.specs.Sha256.{sha256};
-ghost use Rattle.oas_hash.specs.Hashing.{Holds256};
+ghost use Rattle.oas_checksum.specs.Hashing.{Holds256};
 
-use oas_hash::Sha256;
+use oas_checksum::Sha256;
 use oas_num::{Sink, SinkFault};
 
 /// How many bytes are buffered before they are hashed.

@@ -5,3 +5,5 @@ pub mod Signed
 pub mod Sums
 pub mod Signing
 pub mod Summing
+pub mod Schedule
+pub mod Hashing

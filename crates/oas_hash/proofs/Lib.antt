@@ -1,4 +1,0 @@
-mod WordLemmas
-mod LaneLemmas
-mod ScheduleLemmas
-mod HashingLemmas

@@ -1,6 +1,0 @@
-use Rattle.std.proofs.Common.{◌*◌}
-use Rattle.oas_hash.specs.Schedule.{IsAhead}
-use Rattle.oas_hash.proofs.block.compress.Given as goal
-
-abbrev pub invariant-turns : goal.invariant-turns
-invariant-turns l = IsAhead l.block l.state l.sums l.v l.first l.second l.third l.last (16 * l.turn)

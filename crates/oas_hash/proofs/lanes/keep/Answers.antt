@@ -1,5 +1,0 @@
-use Rattle.oas_hash.proofs.ScheduleLemmas.{kept}
-use Rattle.oas_hash.proofs.lanes.keep.Goals as goal
-
-pub returns : goal.returns
-returns c = λ b held is. kept b c.args.sums.now c.args.x c.args.at c.requires held is

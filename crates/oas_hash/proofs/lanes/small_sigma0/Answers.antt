@@ -1,5 +1,0 @@
-use Rattle.oas_hash.proofs.LaneLemmas.{sigma0_lanes}
-use Rattle.oas_hash.proofs.lanes.small_sigma0.Goals as goal
-
-pub returns : goal.returns
-returns c = sigma0_lanes c.args.x c.fits-x.0

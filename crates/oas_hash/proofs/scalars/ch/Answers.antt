@@ -1,6 +1,0 @@
-use Rattle.std.proofs.Common.{arith}
-use Rattle.oas_hash.proofs.WordLemmas.{ch_is}
-use Rattle.oas_hash.proofs.scalars.ch.Goals as goal
-
-pub returns : goal.returns
-returns c = ch_is c.args.x c.args.y c.args.z (omega arith) (omega arith) (omega arith)
