@@ -5,7 +5,7 @@ PREFIX ?= /usr/local
 JOBS ?=
 PROVE = scripts/prove $(if $(JOBS),--jobs $(JOBS))
 
-.PHONY: all lib wheel install install-built install-lib dist test test-built test-house test-c test-python test-large test-rows test-reference test-readings test-reading test-inflate test-command test-completion test-words test-workflows test-cluster test-klayout test-klayout-prepared bench bench-klayout clean
+.PHONY: all lib wheel install install-built install-lib dist test test-edits test-built test-house test-c test-python test-large test-rows test-reference test-readings test-reading test-inflate test-command test-completion test-words test-workflows test-cluster test-klayout test-klayout-prepared bench bench-klayout clean
 
 # The programs: proves every crate that they stand on and no other, and leaves them as ./oascanon and ./oasprep. It tells how far it
 # is, and goes on where it was stopped.
@@ -44,10 +44,14 @@ install-lib:
 	mkdir -p $(DESTDIR)$(PREFIX)/lib/pkgconfig
 	sed -e 's|@PREFIX@|$(PREFIX)|' -e 's|@VERSION@|$(VERSION)|' oascanon.pc.in >$(DESTDIR)$(PREFIX)/lib/pkgconfig/oascanon.pc
 
-# The gate: `rt ci` (every proof from nothing, the edits that must fail, the tests of the crates, the stored runs), and then, on the
-# programs that it built, each of the tests below (tests/run). Its last line is `N passed, M failed`.
+# The gate: `rt ci` (every proof from nothing, the tests of the crates, the stored runs), with it the edits that must fail, and then, on
+# the programs that it built, each of the tests below (tests/run). Its last line is `N passed, M failed`.
 test:
 	tests/run
+
+# Those edits alone: small bugs, each of which the prover has to refuse.
+test-edits: all lib
+	tests/edits.py
 
 # Those tests alone, side by side, on the programs as `make` builds them.
 test-built: all

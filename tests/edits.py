@@ -1,7 +1,9 @@
 #!/usr/bin/env python3
 """The edits of `must-fail/`: each is a wrong body, which the prover has to refuse.
 
-    edits.py [CRATE..]   tries the edits of these crates, or of all, over the libraries that were built here (scripts/prove)
+    edits.py [CRATE..]         tries the edits of these crates, or of all, over the libraries that were built here (scripts/prove)
+    edits.py --beside FOLDER   tries those of each crate that a line of standard input names, as soon as it does, over the libraries of
+                               FOLDER, which has these sources: on half of the processors, and on all once the input has ended
 
 The kit's `rt must-fail` tries one edit at a time, and reads the crate and all libraries below it for each. Here a crate is checked with
 many wrong bodies at once: a body changes no contract, so what is proved of one function doesn't depend on another's body. An edit is
@@ -9,7 +11,7 @@ refused where the check reports a goal of its own function that isn't proved. Th
 nothing of it: it is tried again without that other edit, and so is a second edit of a function. What changes more than a body is tried
 by itself, as the kit does. A function that no edit changes has to be proved, or to call one that isn't.
 
-The gate tries a crate's edits as soon as `rt ci` has proved it, on what processors are idle. The last line is `N passed, M failed`.
+What proves crates beside it goes first. The last line is `N passed, M failed`.
 """
 
 import argparse
@@ -24,7 +26,6 @@ import shutil
 import sys
 import tempfile
 import threading
-import time
 from dataclasses import dataclass
 from types import SimpleNamespace
 
@@ -140,7 +141,7 @@ class Trial:
         it."""
         words = [word for path in only for word in ("--only", path)]
         ran = rt.checked(self.crate, texts, [*FLAGS, *words], self.kept)
-        lines = ran.stdout.splitlines() or [""]
+        lines = ran.stdout.rstrip("\n").split("\n")
         is_judged = ran.returncode == 1 and lines[-1].startswith("only=" if only else "logic=not-proved")
         is_read = not rt.rtlib.STALE.search(ran.stdout) and not any(rt.unread(it, texts) for it in lines)
         return lines if is_judged and is_read else None
@@ -148,7 +149,9 @@ class Trial:
     def round(self, edits):
         """Checks the crate with edits of several functions, and notes which are refused. Returns those that have to be tried again."""
         texts, chosen = self.together(edits)
-        lines = self.check(texts, [symbol_of(self.crate, it.function, self.symbols) for it in chosen if self.symbols])
+        # The first check is of the whole crate, and shows the names of its functions.
+        only = [symbol_of(self.crate, it.function, self.symbols) for it in chosen if self.symbols]
+        lines = None if None in only else self.check(texts, only)
         if lines is None:
             return self.alone(edits)
         said = dict(FUNCTION.findall("\n".join(lines)))
@@ -200,6 +203,9 @@ class Trial:
 def tried(crate):
     """Tries the edits of a crate that stand here; returns how many were refused, how many were not, and a line for each."""
     good, bad = rt.edits_of(SimpleNamespace(folder=f"{TOP}/crates/{crate.name}"))
+    lacking = next((it.name for it in crate.below() if not os.path.isdir(it.rlib)), None)
+    if good and lacking:
+        return 0, 1, [f"the edits of {crate.name} cannot be tried: {lacking} is not built (scripts/prove {crate.name})"]
     with tempfile.TemporaryDirectory(prefix="edits-kept-") as kept:
         edits = Trial(crate, good, kept).run() if good else []
     lines = [f"must-fail {crate.name}/{it.name}: {it.failed or 'refused: ' + it.refused[:160]}" for it in edits]
@@ -209,23 +215,22 @@ def tried(crate):
 
 
 class Trials:
-    """Tries the edits of one crate after another, on so many processors, each as soon as it is added. The crates are those of a
-    folder with this repository's sources, in which the libraries below a crate are built when it is added."""
+    """Tries the edits of crates side by side, each as soon as it is added. The crates are those of a folder with this repository's
+    sources, in which the libraries below a crate are built when it is added."""
 
     def __init__(self, folder, lanes):
         # The kit's first call sets a signal handler, which only the main thread may do.
         rt.rtlib.guarded()
         with contextlib.redirect_stdout(sys.stderr):
             found = sorted(rt.rtlib.crates_below(str(folder)), key=lambda it: len(it.below()))
-        self.crates = {it.name: it for it in found}
-        self.added, self.left, self.threads = queue.Queue(), set(self.crates), []
+        self.left = {it.name: it for it in found}
+        self.added, self.threads, self.lock = queue.Queue(), [], threading.Lock()
         self.passed = self.failed = 0
-        self.begun, self.lock = time.monotonic(), threading.Lock()
         self.take_more(lanes)
 
     def add(self, name):
-        self.left.discard(name)
-        self.added.put(self.crates[name])
+        if crate := self.left.pop(name, None):
+            self.added.put(crate)
 
     def take_more(self, lanes):
         """Works on so many more processors."""
@@ -235,16 +240,18 @@ class Trials:
             thread.start()
 
     def work(self):
-        # What proves crates goes first.
         os.setpriority(os.PRIO_PROCESS, threading.get_native_id(), 10)
         while crate := self.added.get():
             try:
                 passed, failed, lines = tried(crate)
-            except Exception as error:  # the gate goes on, and fails
+            except Exception as error:  # the others are tried all the same
                 passed, failed, lines = 0, 1, [f"the edits of {crate.name} cannot be tried: {error!r}"]
-            with self.lock:
-                self.passed, self.failed = self.passed + passed, self.failed + failed
-                print("".join(f"{it}\n" for it in lines), end="", flush=True)
+            self.tell(passed, failed, lines)
+
+    def tell(self, passed, failed, lines):
+        with self.lock:
+            self.passed, self.failed = self.passed + passed, self.failed + failed
+            print("".join(f"{it}\n" for it in lines), end="", flush=True)
 
     def end(self):
         """Returns once all that was added was tried."""
@@ -254,13 +261,29 @@ class Trials:
             thread.join()
 
 
+def follow(folder):
+    """Tries the edits of the crates that the input names."""
+    lanes = len(os.sched_getaffinity(0))
+    trials = Trials(folder, max(lanes // 2, 1))
+    for line in sys.stdin:
+        trials.add(line.strip())
+    for name in sorted(trials.left):
+        trials.tell(0, 1, [f"the edits of {name} were not tried: it isn't proved"])
+    trials.take_more(lanes - lanes // 2)
+    return trials
+
+
 def main():
     parser = argparse.ArgumentParser(description=__doc__, formatter_class=argparse.RawDescriptionHelpFormatter)
+    parser.add_argument("--beside", metavar="FOLDER")
     parser.add_argument("names", nargs="*", metavar="CRATE")
-    names = parser.parse_args().names
-    trials = Trials(TOP, len(os.sched_getaffinity(0)))
-    for name in names or trials.crates:
-        trials.add(name)
+    asked = parser.parse_args()
+    if asked.beside:
+        trials = follow(asked.beside)
+    else:
+        trials = Trials(TOP, len(os.sched_getaffinity(0)))
+        for name in asked.names or list(trials.left):
+            trials.add(name)
     trials.end()
     print(f"{trials.passed} passed, {trials.failed} failed")
     return int(trials.failed > 0)

@@ -1,11 +1,13 @@
 """The parts of the gate that come after `rt ci`: what each runs, what it needs, and what came of it."""
 
+import contextlib
 import os
 import pathlib
 import re
 import shutil
 import signal
 import subprocess
+import tempfile
 import threading
 import time
 from dataclasses import dataclass, field
@@ -143,6 +145,16 @@ def outcome(words):
         RUNNING.discard(process)
 
 
+def ended(part, status, output, start):
+    """A part's result, what it printed, and how many seconds it took."""
+    lines = output.rstrip("\n").split("\n")
+    result = result_of(part.name, lines[-1], status)
+    result.told += [line for line in lines if line.startswith(NOT_RUN)]
+    if output and not output.endswith("\n"):
+        output += "\n"
+    return result, output, time.monotonic() - start
+
+
 def run_part(part):
     """Runs a part; returns its result, what it printed, and how many seconds it took."""
     start = time.monotonic()
@@ -151,9 +163,33 @@ def run_part(part):
         status, output = (0, f"{NOT_RUN}{why}\n") if why else outcome(part.words)
     except OSError as error:
         status, output = error.errno, f"{part.words[0]} cannot be run: {error.strerror}\n"
-    lines = output.rstrip("\n").split("\n")
-    result = result_of(part.name, lines[-1], status)
-    result.told += [line for line in lines if line.startswith(NOT_RUN)]
-    if output and not output.endswith("\n"):
-        output += "\n"
-    return result, output, time.monotonic() - start
+    return ended(part, status, output, start)
+
+
+class Fed:
+    """A part that runs already, and is given lines one by one."""
+
+    def __init__(self, part):
+        self.part, self.start, self.output = part, time.monotonic(), tempfile.TemporaryFile("w+", errors="replace")
+        how = {"stdin": subprocess.PIPE, "stdout": self.output, "stderr": subprocess.STDOUT, "text": True}
+        # In the session of what runs beside it, within which its priority counts.
+        self.process = subprocess.Popen(part.words, process_group=0, **how)
+        RUNNING.add(self.process)
+
+    def feed(self, line):
+        # Where it has ended, its status says why.
+        with contextlib.suppress(OSError):
+            self.process.stdin.write(f"{line}\n")
+            self.process.stdin.flush()
+
+    def close(self):
+        """Tells it that no more lines come."""
+        with contextlib.suppress(OSError):
+            self.process.stdin.close()
+
+    def end(self):
+        """As run_part, once it has ended."""
+        status = self.process.wait()
+        RUNNING.discard(self.process)
+        self.output.seek(0)
+        return ended(self.part, status, self.output.read(), self.start)

@@ -19,6 +19,8 @@ CASES = [
     ("rt ci fails", {"bin/rt": 'echo "7 passed, 1 failed"; exit 1'}, False, "rt ci"),
     ("rt ci is killed", {"bin/rt": f"{GREEN}; kill -9 $$"}, False, "rt ci"),
     ("there is no rt", {"bin/rt": None}, False, "rt ci"),
+    ("an edit is not refused", {"tests/edits.py": 'cat >/dev/null; echo "9 passed, 1 failed"; exit 1'}, False, "edits"),
+    ("the edits end at once", {"tests/edits.py": "exit 1"}, False, "edits"),
     ("the library isn't built", {"tests/library": "echo NOT built; exit 1"}, False, "library"),
 ]
 
@@ -36,7 +38,7 @@ def run(folder, changed, is_merge):
         (folder / name).parent.mkdir(exist_ok=True)
         shutil.copy(TESTS.parent / name, folder / name)
     # Where a package isn't there, it can't be installed.
-    stubs = dict.fromkeys(["bin/rt", *(part.words[0] for part in parts_of(TESTS.parent, after_ci=True))], GREEN)
+    stubs = dict.fromkeys(["bin/rt", "tests/edits.py", *(part.words[0] for part in parts_of(TESTS.parent, after_ci=True))], GREEN)
     for name, text in (stubs | {"bin/apt-get": "exit 1"} | changed).items():
         if text is not None:
             script(folder / name, text)
