@@ -87,7 +87,7 @@ def edit_of(path, folder, functions):
 
 
 def symbol_of(crate, function, symbols):
-    """The function's name in a check, or None where several could be meant."""
+    """The function's name in a check, or None where several of these could be meant, or none."""
     module = "::".join([crate.name, *function.module, ""])
     if not function.block:
         found = [f"{module}{function.name}"]
@@ -99,6 +99,16 @@ def symbol_of(crate, function, symbols):
         below = [it for it in below if function.block.fits(it)] if not function.block.is_trait else [function.block.trait[0]]
         found = [f"{module}{it}::{function.name}" for it in below]
     return found[0] if len(found) == 1 and found[0] in symbols else None
+
+
+def path_of(crate, function):
+    """What a check is told to look at: the function, or its module, where only a check could say what a trait's method is called."""
+    if not function.in_trait:
+        owner = [function.owner] if function.block else []
+        return "::".join([*function.module, *owner, function.name])
+    written = pathlib.Path(crate.folder, "proofs", *function.module).glob(f"*/{function.name}/")
+    symbol = symbol_of(crate, function, {"::".join([crate.name, *function.module, it.parent.name, it.name]) for it in written})
+    return symbol or "::".join(function.module)
 
 
 def own_goal(symbol, words, lines):
@@ -113,10 +123,10 @@ def own_goal(symbol, words, lines):
 
 
 class Trial:
-    """The edits of a crate, the folder of what its checks kept, and the names of its functions in a check."""
+    """The edits of a crate, and the folder of what its checks kept."""
 
     def __init__(self, crate, paths, kept):
-        self.crate, self.kept, self.symbols = crate, kept, set()
+        self.crate, self.kept = crate, kept
         source = sources.Source(crate.folder)
         source.read("src/main.rt" if crate.is_program else "src/lib.rt")
         self.edits = [edit_of(it, crate.folder, source.functions) for it in paths]
@@ -137,28 +147,25 @@ class Trial:
         return texts, chosen
 
     def check(self, texts, only):
-        """Checks the crate with these texts, all of it or what `only` names. Returns the lines, or None where the prover said nothing of
-        it."""
+        """Checks what these paths name, and what that calls, with these texts. Returns the lines, or None where not all is read by the
+        prover, or all is proved."""
         words = [word for path in only for word in ("--only", path)]
         ran = rt.checked(self.crate, texts, [*FLAGS, *words], self.kept)
         lines = ran.stdout.rstrip("\n").split("\n")
-        is_judged = ran.returncode == 1 and lines[-1].startswith("only=" if only else "logic=not-proved")
+        is_judged = ran.returncode == 1 and lines[-1].startswith("only=")
         is_read = not rt.rtlib.STALE.search(ran.stdout) and not any(rt.unread(it, texts) for it in lines)
         return lines if is_judged and is_read else None
 
     def round(self, edits):
         """Checks the crate with edits of several functions, and notes which are refused. Returns those that have to be tried again."""
         texts, chosen = self.together(edits)
-        # The first check is of the whole crate, and shows the names of its functions.
-        only = [symbol_of(self.crate, it.function, self.symbols) for it in chosen if self.symbols]
-        lines = None if None in only else self.check(texts, only)
+        lines = self.check(texts, sorted({path_of(self.crate, it.function) for it in chosen}))
         if lines is None:
             return self.alone(edits)
         said = dict(FUNCTION.findall("\n".join(lines)))
-        self.symbols = self.symbols or set(said)
         again, known = [it for it in edits if it not in chosen], set()
         for edit in chosen:
-            symbol = symbol_of(self.crate, edit.function, self.symbols)
+            symbol = symbol_of(self.crate, edit.function, said)
             words = said.get(symbol, "")
             known.add(symbol)
             edit.refused = own_goal(symbol, words, lines) if symbol else ""
