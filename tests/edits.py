@@ -6,10 +6,11 @@
                                FOLDER, which has these sources: on half of the processors, and on all once the input has ended
 
 The kit's `rt must-fail` tries one edit at a time, and reads the crate and all libraries below it for each. Here a crate is checked with
-many wrong bodies at once: a body changes no contract, so what is proved of one function doesn't depend on another's body. An edit is
-refused where the check reports a goal of its own function that isn't proved. That the function calls another one that isn't proved says
-nothing of it: it is tried again without that other edit, and so is a second edit of a function. What changes more than a body is tried
-by itself, as the kit does. A function that no edit changes has to be proved, or to call one that isn't.
+many wrong bodies at once, and no function but theirs and those that these call: a body changes no contract, so what is proved of one
+function doesn't depend on another's body. An edit is refused where the check reports a goal of its own function that isn't proved. That
+the function calls another one that isn't proved says nothing of it: it is tried again without that other edit, and so is a second edit
+of a function. What changes more than a body is tried by itself. A function that no edit changes has to be proved, or to call one that
+isn't.
 
 What proves crates beside it goes first. The last line is `N passed, M failed`.
 """
