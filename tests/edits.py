@@ -9,8 +9,8 @@ The kit's `rt must-fail` tries one edit at a time, and reads the crate and all l
 many wrong bodies at once, and no function but theirs and those that these call: a body changes no contract, so what is proved of one
 function doesn't depend on another's body. An edit is refused where the check reports a goal of its own function that isn't proved. That
 the function calls another one that isn't proved says nothing of it: it is tried again without that other edit, and so is a second edit
-of a function. What changes more than a body is tried by itself. A function that no edit changes has to be proved, or to call one that
-isn't.
+of a function. What changes more than a body is tried by itself, and so is each edit of a check in which a function that no edit changes
+has a goal that isn't proved. An edit fails where a check of it alone doesn't refuse it.
 
 What proves crates beside it goes first. The last line is `N passed, M failed`.
 """
@@ -93,7 +93,9 @@ def symbol_of(crate, function, symbols):
     if not function.block:
         found = [f"{module}{function.name}"]
     elif not function.in_trait:
-        found = [f"{module}{function.owner}::{function.name}"]
+        # Where the type is declared in another module, that is the function's.
+        ends = [it for it in symbols if re.search(rf"::{function.owner}(\+\w+)*::{function.name}$", it)]
+        found = [it for it in ends if it.startswith(module)] or ends
     else:
         below = [it[len(module):].split("::") for it in symbols if it.startswith(module)]
         below = [it[0] for it in below if it[1:] == [function.name]]
@@ -103,10 +105,12 @@ def symbol_of(crate, function, symbols):
 
 
 def path_of(crate, function):
-    """What a check is told to look at: the function, or its module, where only a check could say what a trait's method is called."""
-    if not function.in_trait:
-        owner = [function.owner] if function.block else []
-        return "::".join([*function.module, *owner, function.name])
+    """What a check is told to look at: the function, or its module, where only a check can say how a method of a trait, or of a type
+    with arguments, is called there."""
+    if not function.block:
+        return "::".join([*function.module, function.name])
+    if not function.in_trait and len(function.block.words) == 1:
+        return f"{function.owner}::{function.name}"
     written = pathlib.Path(crate.folder, "proofs", *function.module).glob(f"*/{function.name}/")
     symbol = symbol_of(crate, function, {"::".join([crate.name, *function.module, it.parent.name, it.name]) for it in written})
     return symbol or "::".join(function.module)
@@ -164,23 +168,17 @@ class Trial:
         if lines is None:
             return self.alone(edits)
         said = dict(FUNCTION.findall("\n".join(lines)))
-        again, known = [it for it in edits if it not in chosen], set()
-        for edit in chosen:
-            symbol = symbol_of(self.crate, edit.function, said)
+        symbols = {edit: symbol_of(self.crate, edit.function, said) for edit in chosen}
+        if any(own_goal(symbol, words, lines) for symbol, words in said.items() if symbol not in symbols.values()):
+            return [it for it in edits if it not in chosen] + self.alone(chosen)
+        again = [it for it in edits if it not in chosen]
+        for edit, symbol in symbols.items():
             words = said.get(symbol, "")
-            known.add(symbol)
             edit.refused = own_goal(symbol, words, lines) if symbol else ""
-            if edit.refused:
-                continue
-            if words.startswith("proved"):
-                edit.failed = "NOT REFUSED: the function is still proved with this edit"
-            elif OF_OTHERS.search(words) and len(chosen) > 1:
+            if not edit.refused and OF_OTHERS.search(words) and len(chosen) > 1:
                 again.append(edit)
-            else:
+            elif not edit.refused:
                 self.alone([edit])
-        for symbol, words in said.items():
-            if symbol not in known and None not in known and own_goal(symbol, words, lines):
-                chosen[0].failed = f"BAD EDIT: {symbol}, which no edit of this check changes, isn't proved"
         return again
 
     def alone(self, edits):

@@ -23,16 +23,16 @@ EDITS = {"a.edit": "file: src/lib.rt\nold:     1\nnew:     0\n", "b.edit": "file
 ERROR = "./proofs/one/Answers.antt:5:13: error: `returns`: `search`: no proof\nfn x::one: not proved\n"
 LACKS = "no proof: expected answers in ./proofs/two/Answers.antt; `search` did not prove `returns`"
 CALLS = "it calls `x::one`, which is not proved"
-LAST = "only=2 proved=0"
+LAST, ALL, PROVED = "only=2 proved=0", "logic=not-proved", "logic=proved"
 # What each check in turn prints, and then: how many edits are refused, and what is said of the others.
 CASES = [
     ("both are refused", [f"{ERROR}fn x::two: {LACKS}; {CALLS}\n{LAST}"], 2, ""),
-    ("one is proved", [f"fn x::one: proved\nfn x::two: {LACKS}\n{LAST}"], 1, "NOT REFUSED"),
+    ("one is proved", [f"fn x::one: proved\nfn x::two: {LACKS}\n{LAST}", PROVED, PROVED], 1, "NOT REFUSED"),
     ("one is refused for the other", [f"{ERROR}fn x::two: no proof: {CALLS}\n{LAST}", f"fn x::one: proved\nfn x::two: {LACKS}\n{LAST}"], 2, ""),
-    ("one is refused for the other alone", [f"{ERROR}fn x::two: no proof: {CALLS}\n{LAST}", f"fn x::two: proved\n{LAST}"], 1, "NOT REFUSED"),
-    ("a third function is refused", [f"{ERROR}fn x::two: {LACKS}\nfn x::three: {LACKS}\n{LAST}"], 1, "BAD EDIT"),
+    ("one is refused for the other alone", [f"{ERROR}fn x::two: no proof: {CALLS}\n{LAST}", f"fn x::two: proved\n{LAST}", PROVED, PROVED], 1, "NOT REFUSED"),
+    ("a third function is refused", [f"{ERROR}fn x::two: {LACKS}\nfn x::three: {LACKS}\n{LAST}", f"{ERROR}{ALL}", PROVED, PROVED], 1, "NOT REFUSED"),
     ("the prover doesn't read them", ["src/lib.rt:6:5: error[E0308]: mismatched types"] * 4, 0, "BAD EDIT"),
-    ("the crate is proved with them", ["fn x::one: proved\nfn x::two: proved\nonly=2 proved=2"] * 2 + ["logic=proved"] * 2, 0, "NOT REFUSED"),
+    ("the crate is proved with them", [f"fn x::one: proved\nfn x::two: proved\n{LAST}", PROVED, PROVED], 0, "NOT REFUSED"),
 ]
 
 
@@ -42,7 +42,7 @@ def tried(folder, printed):
 
     def checked(_crate, _texts, _flags, _kept):
         text = next(printed)
-        return SimpleNamespace(returncode=int(not text.endswith(("logic=proved", "proved=2"))), stdout=text + "\n")
+        return SimpleNamespace(returncode=int(text != PROVED), stdout=text + "\n")
 
     edits.rt.checked = checked
     crate = SimpleNamespace(name="x", folder=str(folder), is_program=False)
