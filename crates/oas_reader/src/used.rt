@@ -1,6 +1,7 @@
 //! How often the numbers of names are used, and the weight of their names together.
 
 ghost use Rattle.std.specs.Prelude.{◌≡◌, ◌+◌, ◌<◌, ◌^◌, [], unwrap_or, OnOk, OnErr};
+ghost use Rattle.std.specs.BTreeMap.{get, insert_entry, IsOrdered, IsUnchanged};
 ghost use Rattle.std.specs.Ordering.{nat_cmp};
 ghost use Rattle.oas_elements.specs.Bag.{put_more};
 ghost use Rattle.oas_elements.specs.Laws.BagLaws.{total};
@@ -47,10 +48,24 @@ impl UsedNumbers {
         ensures ok { OnOk result (self.new ≡ put_more nat_cmp self.old number times) }
         ensures err { OnErr result (self.new ≡ self.old) }
     {
-        let had = self.times.get(&number).copied().unwrap_or(0);
-        self.times.insert(number, had + times)?;
+        count_up(&mut self.times, number, times)?;
         Ok(())
     }
+}
+
+/// Adds to the count of a number, in one search for its place, or changes nothing.
+fn count_up(used: &mut BTreeMap<u64, u64>, number: u64, times: u64) -> Result<(), AllocError>
+    requires { unwrap_or (get nat_cmp used.old number) 0 + times < 2 ^ 64 }
+    ensures entries { OnOk result (used.new.entries ≡ insert_entry nat_cmp used.old.entries number (unwrap_or (get nat_cmp used.old number) 0 + times)) }
+    ensures ordered { OnOk result (IsOrdered nat_cmp used.new) }
+    ensures err { OnErr result (IsUnchanged used.old used.new) }
+{
+    let entry = match used.entry(number) {
+        Ok(entry) => entry,
+        Err(_) => return Err(AllocError),
+    };
+    *entry.or_insert(0) += times;
+    Ok(())
 }
 
 /// The bytes of the names of cells that are placed by number.
