@@ -190,8 +190,9 @@ class Trial:
             if lines:
                 edit.refused = next((it for it in lines if ": error" in it and not NAMES_ALONE.search(it)), "")
             if not edit.refused:
-                is_refused, said = rt.must_fail(self.crate, edit.path, FLAGS, self.kept)
-                edit.refused, edit.failed = (said.partition(": ")[2], "") if is_refused else ("", said.partition(": ")[2])
+                kind, said = rt.must_fail(self.crate, edit.path, FLAGS, self.kept)
+                told = said.partition(": ")[2]
+                edit.refused, edit.failed = (told, "") if kind in (rt.REFUSED, rt.AT_LIMIT) else ("", told)
         return []
 
     def run(self):
