@@ -70,7 +70,7 @@ impl Spelled for Delta2 {
         ensures { ReadsPiece SpellsDelta2 IntegerMay (S.script source.old) result (S.script source.new) }
     {
         let coded = read_unsigned(source)?;
-        Ok(delta2_from(coded))
+        Ok(Delta2::from_number(coded))
     }
 }
 
@@ -90,7 +90,33 @@ impl Spelled for Delta3 {
         ensures { ReadsPiece SpellsDelta3 IntegerMay (S.script source.old) result (S.script source.new) }
     {
         let coded = read_unsigned(source)?;
-        Ok(delta3_from(coded))
+        Ok(Delta3::from_number(coded))
+    }
+}
+
+impl Delta2 {
+    /// The step of its number: the low two bits are the direction, the rest is the distance.
+    pub fn from_number(coded: u64) -> Delta2
+        ensures { result ≡ delta2_of coded }
+    {
+        let step = step_toward(coded % 4, coded / 4);
+        Delta2 {
+            dx: step.dx,
+            dy: step.dy,
+        }
+    }
+}
+
+impl Delta3 {
+    /// The step of its number: the low three bits are the direction, the rest is the distance.
+    pub fn from_number(coded: u64) -> Delta3
+        ensures { result ≡ delta3_of coded }
+    {
+        let step = step_toward(coded % 8, coded / 8);
+        Delta3 {
+            dx: step.dx,
+            dy: step.dy,
+        }
     }
 }
 
@@ -127,28 +153,6 @@ impl Spelled for GDelta {
         let first = read_unsigned(source)?;
         let second = read_unsigned_if(first % 2 == 1, source)?;
         Ok(GDelta::from_numbers(first, second))
-    }
-}
-
-/// The low two bits are the direction, the rest is the distance.
-fn delta2_from(coded: u64) -> Delta2
-    ensures { result ≡ delta2_of coded }
-{
-    let step = step_toward(coded % 4, coded / 4);
-    Delta2 {
-        dx: step.dx,
-        dy: step.dy,
-    }
-}
-
-/// The low three bits are the direction, the rest is the distance.
-fn delta3_from(coded: u64) -> Delta3
-    ensures { result ≡ delta3_of coded }
-{
-    let step = step_toward(coded % 8, coded / 8);
-    Delta3 {
-        dx: step.dx,
-        dy: step.dy,
     }
 }
 

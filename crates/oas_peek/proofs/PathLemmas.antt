@@ -1,38 +1,39 @@
 -- Extensions and paths without a repetition, and their records.
-use Rattle.std.proofs.Common.{◌≡◌, ℕ, ℤ, ◌-◌, ◌/◌, ◌%◌, Bool, false, Option, None, List, [], ◌∷◌, length, refl, ap, sym, ◌∙◌, arith}
+use Rattle.std.proofs.Common.{◌≡◌, ℕ, ℤ, ◌-◌, ◌/◌, ◌%◌, ◌<◌, Bool, false, Option, None, List, [], ◌∷◌, length, refl, ap, sym, ◌∙◌, arith}
 use Rattle.std.specs.Prelude.{IsTrue, ◌==◌}
 use Rattle.oas_shape.specs.declared.list_use.ListUse.TheVariants as uses
 use Rattle.oas_shape.specs.Polylines.{Polyline}
 use Rattle.oas_record.specs.declared.paths.Path.{Path as OnePath}
-use Rattle.oas_record.specs.declared.paths.Extension.TheVariants as extension
 use Rattle.oas_record.specs.declared.paths.Extensions.{Extensions}
 use Rattle.oas_record.specs.Info.{has}
 use Rattle.oas_record.specs.Kinds.{number, signed}
 use Rattle.oas_record.specs.Trees.{pair, there}
 use Rattle.oas_record.specs.Fields.{Layers, layers, spot, points}
-use Rattle.oas_record.specs.Paths.{IsPathInfo, IsCanonicalPath, scheme_kind, numbers, extensions_of, extensions_kind, path_parts, path_of}
+use Rattle.oas_record.specs.Paths.{IsPathInfo, IsCanonicalPath, scheme_kind, numbers, extension_of, extensions_of, extensions_kind, path_parts, path_of}
 use Rattle.oas_peek.specs.Fronts.{Left, ConsumesByte, ConsumesPrefix, noted}
-use Rattle.oas_peek.specs.Polygons.{ConsumesList}
 use Rattle.oas_peek.specs.Paths.{IsPeekedPath, ConsumesPath}
-use Rattle.oas_peek.proofs.FrontLemmas.{pair_takes, image_takes, some_takes, spot_takes, one_byte, one_shortest}
+use Rattle.oas_peek.proofs.FrontLemmas.{pair_takes, image_takes, spot_takes, one_byte, one_shortest, both_true}
 use Rattle.oas_peek.proofs.RectangleLemmas.{taken}
 use Rattle.oas_peek.proofs.NamedLemmas.{info_takes}
+use Rattle.oas_peek.proofs.ListLemmas.{has_plain}
 
 -- ---- extensions
 
--- the scheme by which both are numbers
-scheme_takes : {old new : Left} → ConsumesPrefix number 15 old new → ConsumesPrefix scheme_kind 15 old new
-scheme_takes p = record {
+pub all_numbers : (scheme : ℕ) → IsTrue (scheme == 15) → scheme ≡ 15
+all_numbers scheme t = grind arith
+
+scheme_takes : (scheme : ℕ) (all : Bool) {old new : Left} → scheme < 16 → (IsTrue all → scheme ≡ 15) → ConsumesPrefix number scheme old new → ConsumesPrefix scheme_kind scheme old (noted all new)
+scheme_takes scheme all {new = new} fits is p = record {
   bytes = p.bytes;
   joined = p.joined;
-  spelled = record { holds = omega arith; spelled = p.spelled };
-  shortest = λ now. let s = p.shortest now in (s.0, record { holds = (omega arith, refl); spelled = s.1 });
+  spelled = record { holds = fits; spelled = p.spelled };
+  shortest = λ now. let f = both_true new.shortest all now in let s = p.shortest f.0 in (s.0, record { holds = (fits, is f.1); spelled = s.1 });
 }
 
-pub numbers_take : (start end : ℤ) {old one two new : Left} → ConsumesPrefix number 15 old one → ConsumesPrefix signed start one two → ConsumesPrefix signed end two new
-    → ConsumesPrefix extensions_kind (record { start = extension.Explicit start; end = extension.Explicit end }) old new
-numbers_take start end k p q = image_takes extensions_of _ _ _
-    (pair_takes numbers (scheme_takes k) (pair_takes (λ _. there (15 % 4 == 3) signed) (some_takes signed (15 / 4 == 3) refl p) (some_takes signed (15 % 4 == 3) refl q)))
+pub extensions_take : (scheme : ℕ) (all : Bool) {start end : Option ℤ} {old one two new : Left} → scheme < 16 → (IsTrue all → scheme ≡ 15) → ConsumesPrefix number scheme old one
+    → ConsumesPrefix (there (scheme / 4 == 3) signed) start (noted all one) two → ConsumesPrefix (there (scheme % 4 == 3) signed) end two new
+    → ConsumesPrefix extensions_kind (record { start = extension_of (scheme / 4) start; end = extension_of (scheme % 4) end }) old new
+extensions_take scheme all fits is k p q = image_takes extensions_of _ _ _ (pair_takes numbers (scheme_takes scheme all fits is k) (pair_takes (λ _. there (scheme % 4 == 3) signed) p q))
 
 -- ---- a path after its id
 
@@ -41,18 +42,20 @@ all_given info t = grind arith
 
 pub path_takes : (info : ℕ) (all : Bool) {both : Layers} {width : Option ℕ} {extensions : Option Extensions} {list : Option Polyline} {x y : Option ℤ} {old one two three four five six new : Left}
     → ConsumesByte info old one → has info 4 ≡ false → ConsumesPrefix (layers info) both one two → ConsumesPrefix (there (has info 64) number) width two three
-    → ConsumesPrefix (there (has info 128) extensions_kind) extensions three four → ConsumesList uses.Path (has info 32) list four five → ConsumesPrefix (there (has info 16) signed) x five six
+    → ConsumesPrefix (there (has info 128) extensions_kind) extensions three four → ConsumesPrefix (there (has info 32) (points uses.Path)) list four five → ConsumesPrefix (there (has info 16) signed) x five six
     → ConsumesPrefix (there (has info 8) signed) y six new → (IsTrue all → IsCanonicalPath info)
     → ConsumesPath (record { layer = both.0; datatype = both.1; half_width = width; extensions = extensions; points = list; spot = (record { x = x; y = y; repetition = None }) }) old (noted all new)
-path_takes info all took once l w e s p q is = record {
+path_takes info all {list = list} {new = new} took once l w e s p q is = record {
   takes =
       let fields = pair_takes (λ _. pair (there (has info 64) number) (λ _. pair (there (has info 128) extensions_kind) (λ _. pair (there (has info 32) (points uses.Path)) (λ _. spot (has info 16) (has info 8) (has info 4))))) l
       (pair_takes (λ _. pair (there (has info 128) extensions_kind) (λ _. pair (there (has info 32) (points uses.Path)) (λ _. spot (has info 16) (has info 8) (has info 4)))) w
       (pair_takes (λ _. pair (there (has info 32) (points uses.Path)) (λ _. spot (has info 16) (has info 8) (has info 4))) e
-      (pair_takes (λ _. spot (has info 16) (has info 8) (has info 4)) s.takes (spot_takes (has info 16) (has info 8) (has info 4) once p q)))) in
+      (pair_takes (λ _. spot (has info 16) (has info 8) (has info 4)) s (spot_takes (has info 16) (has info 8) (has info 4) once p q)))) in
       image_takes path_of _ _ _ (info_takes IsPathInfo IsCanonicalPath _ _ path_parts info all took took.small is fields);
   once = refl;
-  plain = s.plain;
+  plain = λ now.
+      let with_x = q.shortest (both_true new.shortest all now).0 in
+      has_plain uses.Path (has info 32) list s.bytes (s.shortest (p.shortest with_x.0).0).1;
 }
 
 -- ---- the whole record

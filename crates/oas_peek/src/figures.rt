@@ -7,7 +7,7 @@ use crate::polygons::{PeekedPolygon, peek_polygon};
 use oas_record::Record;
 use std::alloc::Global;
 
-/// A polygon or a path without a repetition, at the start of some bytes. Its point list, if it gives one, has type 4.
+/// A polygon or a path without a repetition, at the start of some bytes.
 #[derive(Debug, Drop)]
 pub struct PeekedFigure {
     pub record: Record,

@@ -8,10 +8,10 @@ use crate::rectangles::take_layers;
 use oas_num::{Label, Name};
 
 /// The id of a placement record with quarter turns (SEMI P39, PLACEMENT records).
-const PLACEMENT: u8 = 17;
+pub(crate) const PLACEMENT: u8 = 17;
 
 /// The id of a text record (SEMI P39, TEXT record).
-const TEXT: u8 = 19;
+pub(crate) const TEXT: u8 = 19;
 
 /// The info byte of a text that gives its string itself, all other fields, and no repetition.
 const ALL_FIELDS: u8 = 0x5B;

@@ -6,44 +6,46 @@ ghost use Rattle.oas_peek.specs.Fronts.{ConsumesPrefix};
 ghost use Rattle.oas_peek.specs.Paths.{IsPeekedPath, ConsumesPath};
 
 use crate::fronts::Front;
-use crate::polygons::take_list_if;
+use crate::lists::take_list_if;
 use crate::rectangles::take_layers;
 use oas_record::{Extension, Extensions, Path, Spot};
 use oas_shape::ListUse;
 use std::alloc::Global;
 
 /// The id of a path record (SEMI P39, PATH record).
-const PATH: u8 = 22;
+pub(crate) const PATH: u8 = 22;
 
 /// The info byte of a path that gives all its fields, and no repetition.
 const ALL_FIELDS: u8 = 0xFB;
 
-/// The extension-scheme of a path whose extensions are both numbers.
+/// The extension-scheme of a path whose extensions are both numbers, which is the last one.
 const NUMBERS: u64 = 15;
 
-/// A path without a repetition, at the start of some bytes. Its point list, if it gives one, has type 4.
+/// A path without a repetition, at the start of some bytes.
 #[derive(Debug, Drop)]
 pub struct PeekedPath {
     pub path: Path,
     /// How many bytes spell its record, the id included.
     pub length: usize,
-    /// Whether they spell it in the shortest style: all fields are given, both extensions by their numbers, each step by both
-    /// components, each number in as few bytes as it needs.
+    /// Whether they spell it in the shortest style: all fields are given, both extensions by their numbers, the point list has
+    /// type 4, each step is given by both components, each number in as few bytes as it needs.
     pub shortest: bool,
 }
 
-/// Both extensions, that of the start first, where both are numbers (SEMI P39, PATH record, extension-scheme).
+/// Both extensions, that of the start first (SEMI P39, PATH record, extension-scheme).
 fn take_extensions(front: &mut Front<'_>) -> Option<Extensions>
     ensures { IfSome result (λ both. ConsumesPrefix extensions_kind both front.old front.new) }
 {
-    if front.unsigned()? != NUMBERS {
+    let scheme = front.unsigned()?;
+    if scheme > NUMBERS {
         return None;
     }
-    let start = front.signed()?;
-    let end = front.signed()?;
+    front.note(scheme == NUMBERS);
+    let start = front.signed_if(scheme / 4 == 3)?;
+    let end = front.signed_if(scheme % 4 == 3)?;
     Some(Extensions {
-        start: Extension::Explicit(start),
-        end: Extension::Explicit(end),
+        start: Extension::of(scheme / 4, start),
+        end: Extension::of(scheme % 4, end),
     })
 }
 
@@ -87,10 +89,8 @@ fn take_path(alloc: Global, front: &mut Front<'_>) -> Option<Path>
     })
 }
 
-/// The path that the bytes begin with, where it has no repetition, its point list, if it gives one, has type 4, its
-/// extensions, if it gives them, are both numbers, and each of its numbers has at most nine bytes. None also where the bytes
-/// end before it does, or begin with anything else, or if out of memory. So a path with another extension-scheme is left to
-/// the reader of all records.
+/// The path that the bytes begin with, where it has no repetition and each of its numbers has at most nine bytes. None also
+/// where the bytes end before it does, or begin with anything else, or if out of memory.
 pub fn peek_path(alloc: Global, bytes: &[u8]) -> Option<PeekedPath>
     ensures { IfSome result (λ ahead. IsPeekedPath bytes.now ahead) }
 {

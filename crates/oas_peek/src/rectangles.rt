@@ -9,7 +9,7 @@ use crate::fronts::Front;
 use oas_record::{Rectangle, Spot};
 
 /// The id of a rectangle record (SEMI P39, RECTANGLE record).
-const RECTANGLE: u8 = 20;
+pub(crate) const RECTANGLE: u8 = 20;
 
 /// The info byte of a rectangle that gives all its fields, and no repetition.
 const ALL_FIELDS: u8 = 0x7B;

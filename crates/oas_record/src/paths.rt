@@ -27,7 +27,7 @@ pub enum Extension {
 
 impl Extension {
     /// The extension of a code, 0 to 3; only code 3 has the number.
-    fn of(code: u64, number: Option<i64>) -> Extension
+    pub fn of(code: u64, number: Option<i64>) -> Extension
         ensures { result ≡ extension_of code number }
     {
         match number {

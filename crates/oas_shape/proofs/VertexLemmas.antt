@@ -185,5 +185,5 @@ pub last_is : (at last : Point) (points : List Point) (n : ℕ) → 0 < length p
 last_is at last points n lt e f = f ∙ ap (λ (k : ℕ). get_or points (k - 1) last) e ∙ last_of at last points lt
 
 -- a running displacement
-pub stepped : (running : Bool) (before d : GDelta) (x y : ℤ) → running ≡ true → x ≡ before.dx +ℤ d.dx → y ≡ before.dy +ℤ d.dy → step x y ≡ next_step running before d
-stepped running before d x y e p q = subst (λ (r : Bool). step x y ≡ next_step r before d) (sym e) (λ i. step (p i) (q i))
+pub stepped : (before d : GDelta) (x y : ℤ) → x ≡ before.dx +ℤ d.dx → y ≡ before.dy +ℤ d.dy → step x y ≡ next_step true before d
+stepped before d x y p q = (λ i. step (p i) (q i))

@@ -9,7 +9,8 @@
 //!   either is a prefix of another, and none spells two values. In the shortest style a point list has one spelling, and a
 //!   repetition none ([`laws`]).
 //! - [`PointList::vertices`] returns every vertex of the table's sum, `vertices_of` (specs/Polylines.antt), or fails where
-//!   one of them exceeds the limit of coordinates. [`PointList::len`] is their number.
+//!   one of them exceeds the limit of coordinates. [`PointList::is_in_range`] says whether none does, without memory, and
+//!   [`PointList::len`] is their number.
 //! - [`Repetition::count`] and [`Repetition::offset`] are the table's, `count_of` and `offset_of` (specs/Offsets.antt). There
 //!   are at least two listed offsets, and the first is (0, 0).
 //! - [`Repetition::places`] returns the places of the copies, `places_of` (specs/Places.antt), with equally many copies on
@@ -30,9 +31,9 @@
 //!   out (polygons of types 0 and 1). They see a `Repetition` as it is, with its listed offsets as a list. The invariant of
 //!   `OffsetList` says that this list has at least two offsets and begins with (0, 0) (`AreOffsets`).
 //! - `src/`: `list_use` (polygon or path, which counts fit), `steps` (the deltas of the six types, read as steps),
-//!   `point_list`, `vertices`, `displacements` (a step of 128 bits), `repetitions` (the twelve types), `offset_list` (the
-//!   listed offsets of a repetition, with their invariant), `offsets` (listed displacements summed as they are read; count
-//!   and offset), `laws`.
+//!   `point_list`, `vertices`, `in_range` (whether vertices exceed the limits), `displacements` (a step of 128 bits),
+//!   `repetitions` (the twelve types), `offset_list` (the listed offsets of a repetition, with their invariant), `offsets`
+//!   (listed displacements summed as they are read; count and offset), `laws`.
 //! - src/places.rt: a repetition as places with equally many copies on each, so that copies along a step of zero are counted
 //!   by multiplication. The law (`ArePlaces`, specs/Laws/PlaceLaws.antt) is about sums: whatever each offset counts for, all
 //!   copies together count for what the places do, times the copies on each. What crates above need of a list of copies are
@@ -47,10 +48,12 @@
 //!   `second_fails` (proofs/ReadingLemmas) puts the fields before them, and `from_piece` makes it the failure of the whole.
 //! - `vertices` walks with one displacement (`Walked`): the points so far and those of the rest are together the list of the
 //!   definition, so no index is needed. It stops at the first vertex that exceeds the limits, so the running displacement
-//!   never grows too large.
+//!   never grows too large. `is_in_range` takes the same steps, and only its proof has the points (`Stays`,
+//!   proofs/RangeLemmas).
 #![tactic(auto)]
 
 mod displacements;
+mod in_range;
 pub mod laws;
 mod list_use;
 mod offset_list;

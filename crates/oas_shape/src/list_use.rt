@@ -12,7 +12,7 @@ pub enum ListUse {
 impl ListUse {
     /// Whether a list of this type may have this many deltas (SEMI P39, Point lists). A polygon has at least two, and an even
     /// number in types 0 and 1; a path may have any number (own rule).
-    pub(crate) fn fits(self, kind: u64, count: u64) -> bool
+    pub fn fits(self, kind: u64, count: u64) -> bool
         ensures { IsTrue result ↔ IsFitting self kind count }
     {
         match self {

@@ -1,9 +1,9 @@
 //! Point lists as they are read.
-ghost use Rattle.std.specs.Prelude.{◌≡◌, IfOk, length};
+ghost use Rattle.std.specs.Prelude.{◌≡◌, ◌≤◌, ◌+◌, ◌^◌, IfOk, length};
 ghost use Rattle.oas_num.specs.Reading.{ReadsPiece};
 ghost use Rattle.oas_num.specs.Style.{Any};
 ghost use Rattle.oas_ring.specs.declared.point.Point.{Point};
-ghost use Rattle.oas_shape.specs.PointLists.{point_list_in, PointListTook, closing_of, plain_line};
+ghost use Rattle.oas_shape.specs.PointLists.{point_list_in, PointListTook, closing_of, polyline_of, plain_line};
 ghost use Rattle.oas_shape.specs.Polylines.{vertices_of, left_out_count};
 
 use crate::list_use::ListUse;
@@ -79,6 +79,17 @@ impl PointList {
         }
     }
 
+    /// The list of this type with these deltas, as steps; in type 5 each changes the displacement before it.
+    pub fn of_kind(list_use: ListUse, kind: u64, deltas: Vec<GDelta>) -> PointList
+        ensures { result ≡ polyline_of list_use (kind, (length deltas.items, deltas.items)) }
+    {
+        PointList {
+            deltas,
+            running: kind == 5,
+            closing: Closing::of(list_use, kind),
+        }
+    }
+
     /// Reads a type, a count and that many deltas.
     ///
     /// It fails with `ListKind` for a type above 5; with `PointCount` where a polygon has too few deltas or, in types 0 and
@@ -99,16 +110,13 @@ impl PointList {
             return Err(Why::PointCount);
         }
         let deltas = read_deltas(alloc, kind, count, source)?;
-        Ok(PointList {
-            deltas,
-            running: kind == 5,
-            closing: Closing::of(list_use, kind),
-        })
+        Ok(PointList::of_kind(list_use, kind, deltas))
     }
 
     /// How many vertices it has.
     pub fn len(&self) -> usize
-        ensures { (at : Point) → length (vertices_of self.now at) ≡ result }
+        ensures number { (at : Point) → length (vertices_of self.now at) ≡ result }
+        ensures near { result ≤ 2 ^ 63 + 1 }
     {
         let deltas = self.deltas.as_slice();
         deltas.len() + 1 + self.closing.left_out()

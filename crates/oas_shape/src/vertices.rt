@@ -1,5 +1,5 @@
 //! The vertices of a point list.
-ghost use Rattle.std.specs.Prelude.{◌≡◌, ◌+ℤ◌, ◌^◌, false, IfOk, IfErr, SomeIff};
+ghost use Rattle.std.specs.Prelude.{◌≡◌, ◌+ℤ◌, ◌^◌, true, false, IfOk, IfErr, SomeIff};
 ghost use Rattle.std.specs.List.{AllByRecursion};
 ghost use Rattle.std.specs.Option.{option_to_list};
 ghost use Rattle.oas_num.specs.Deltas.{step};
@@ -50,7 +50,7 @@ fn walk(
     ensures refused { IfErr result (λ why. VerticesMay why (listed_vertices running deltas.now at)) }
 {
     if running {
-        walk_displaced(alloc, deltas, running, at, room)
+        walk_displaced(alloc, deltas, at, room)
     } else {
         walk_plain(alloc, deltas, at, room)
     }
@@ -78,18 +78,17 @@ fn walk_plain(alloc: Global, deltas: &[GDelta], at: Point, room: usize) -> Resul
     Ok(points)
 }
 
-/// The same of any list, by displacements, which may have more than 64 bits.
+/// The same of a running list, by displacements, which may have more than 64 bits.
 fn walk_displaced(
     alloc: Global,
     deltas: &[GDelta],
-    running: bool,
     at: Point,
     room: usize,
 ) -> Result<Vec<Point>, Why>
     requires { IsInRange at }
-    ensures given { IfOk result (λ points. points.items ≡ listed_vertices running deltas.now at) }
+    ensures given { IfOk result (λ points. points.items ≡ listed_vertices true deltas.now at) }
     ensures near { IfOk result (λ points. AllByRecursion IsInRange points.items) }
-    ensures refused { IfErr result (λ why. VerticesMay why (listed_vertices running deltas.now at)) }
+    ensures refused { IfErr result (λ why. VerticesMay why (listed_vertices true deltas.now at)) }
 {
     let Ok(mut points) = Vec::with_capacity(alloc, room) else {
         return Err(Why::Memory);
@@ -98,7 +97,7 @@ fn walk_displaced(
     let mut last = at;
     let mut by = Displacement { x: 0, y: 0 };
     for delta in deltas {
-        by = next_displacement(running, by, *delta);
+        by = next_displacement(by, *delta);
         let Some(next) = point_from(last, by) else {
             return Err(Why::CoordinateRange);
         };
@@ -108,26 +107,23 @@ fn walk_displaced(
     Ok(points)
 }
 
-/// The next displacement; in a running list the one before is added.
-fn next_displacement(running: bool, before: Displacement, delta: GDelta) -> Displacement
+/// The next displacement of a running list, to which the one before is added.
+#[inline(always)]
+pub(crate) fn next_displacement(before: Displacement, delta: GDelta) -> Displacement
     requires x { IsBounded (2 ^ 63) before.x }
     requires y { IsBounded (2 ^ 63) before.y }
-    ensures value { step result.x result.y ≡ next_step running (step before.x before.y) delta }
+    ensures value { step result.x result.y ≡ next_step true (step before.x before.y) delta }
     ensures x_near { IsBounded (2 ^ 64) result.x }
     ensures y_near { IsBounded (2 ^ 64) result.y }
 {
-    if running {
-        Displacement {
-            x: before.x + i128::from(delta.dx),
-            y: before.y + i128::from(delta.dy),
-        }
-    } else {
-        Displacement::from_delta(delta)
+    Displacement {
+        x: before.x + i128::from(delta.dx),
+        y: before.y + i128::from(delta.dy),
     }
 }
 
 /// The point at this displacement from that one, where it is within the limits.
-fn point_from(from: Point, by: Displacement) -> Option<Point>
+pub(crate) fn point_from(from: Point, by: Displacement) -> Option<Point>
     requires x { IsBounded (2 ^ 64) by.x }
     requires y { IsBounded (2 ^ 64) by.y }
     ensures { SomeIff result (IsInRange (moved from (step by.x by.y))) (moved from (step by.x by.y)) }
@@ -176,7 +172,7 @@ fn coordinate_after(from: i64, by: i64) -> Option<i64>
 
 /// The point after a step from that one, where it is within the limits.
 #[inline(always)]
-fn point_after(from: Point, delta: GDelta) -> Option<Point>
+pub(crate) fn point_after(from: Point, delta: GDelta) -> Option<Point>
     ensures { SomeIff result (IsInRange (moved from delta)) (moved from delta) }
 {
     let x = coordinate_after(from.x, delta.dx)?;

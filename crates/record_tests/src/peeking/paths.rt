@@ -105,40 +105,41 @@ fn nothing_where_they_are_cut(rt: HostRuntime) -> Result<(), Fail> {
 
 /// Each except the last of the sixteen, and two that do not exist.
 const OTHER_SCHEMES: &str = "\
-16 80 00 05 0e: left\n\
-16 80 01 05 0e: left\n\
-16 80 02 05 0e: left\n\
-16 80 03 05 0e: left\n\
-16 80 04 05 0e: left\n\
-16 80 05 05 0e: left\n\
-16 80 06 05 0e: left\n\
-16 80 07 05 0e: left\n\
-16 80 08 05 0e: left\n\
-16 80 09 05 0e: left\n\
-16 80 0a 05 0e: left\n\
-16 80 0b 05 0e: left\n\
-16 80 0c 05 0e: left\n\
-16 80 0d 05 0e: left\n\
-16 80 0e 05 0e: left\n\
+16 80 00 05 0e: 3 false\n\
+16 80 01 05 0e: 3 false\n\
+16 80 02 05 0e: 3 false\n\
+16 80 03 05 0e: 4 false\n\
+16 80 04 05 0e: 3 false\n\
+16 80 05 05 0e: 3 false\n\
+16 80 06 05 0e: 3 false\n\
+16 80 07 05 0e: 4 false\n\
+16 80 08 05 0e: 3 false\n\
+16 80 09 05 0e: 3 false\n\
+16 80 0a 05 0e: 3 false\n\
+16 80 0b 05 0e: 4 false\n\
+16 80 0c 05 0e: 4 false\n\
+16 80 0d 05 0e: 4 false\n\
+16 80 0e 05 0e: 4 false\n\
 16 80 10 05 0e\n\
 16 80 1f 05 0e";
 
 #[test]
-fn other_schemes_are_left_to_the_reader(rt: HostRuntime) -> Result<(), Fail> {
+fn other_schemes(rt: HostRuntime) -> Result<(), Fail> {
     assert_shown(&rt, rt.alloc(), Kind::Path, OTHER_SCHEMES)
 }
 
 /// Lists of each other type, and one of a type that does not exist.
 const OF_OTHER_TYPES: &str = "\
-16 20 00 01 29 02: left\n\
-16 20 01 01 29 02: left\n\
-16 20 02 01 29 02: left\n\
-16 20 03 01 29 02: left\n\
-16 20 05 01 29 02: left\n\
-16 20 06 01 29 02";
+16 20 00 01 29: 5 false\n\
+16 20 00 03 28 0a 03: 7 false\n\
+16 20 01 03 28 0a 03: 7 false\n\
+16 20 02 01 29: 5 false\n\
+16 20 03 01 29: 5 false\n\
+16 20 05 01 2902: 6 false\n\
+16 20 06 01 29";
 
 #[test]
-fn nothing_where_the_list_has_another_type(rt: HostRuntime) -> Result<(), Fail> {
+fn lists_of_the_other_types(rt: HostRuntime) -> Result<(), Fail> {
     assert_shown(&rt, rt.alloc(), Kind::Path, OF_OTHER_TYPES)
 }
 

@@ -129,22 +129,30 @@ fn nothing_where_they_are_cut(rt: HostRuntime) -> Result<(), Fail> {
     assert_nothing_where_cut(&rt, rt.alloc(), Kind::Polygon, &WHOLE)
 }
 
-/// Lists of each other type, and one of a type that does not exist.
+/// Lists of each other type, of four steps too, with one in nine bytes, and one of a type that does not exist.
 const OF_OTHER_TYPES: &str = "\
-15 20 00 02 29 02 29 02: left\n\
-15 20 01 02 29 02 29 02: left\n\
-15 20 02 02 29 02 29 02: left\n\
-15 20 03 02 29 02 29 02: left\n\
-15 20 05 02 29 02 29 02: left\n\
-15 20 06 02 29 02 29 02";
+15 20 00 02 29 02: 6 false\n\
+15 20 01 02 29 02: 6 false\n\
+15 20 02 02 29 02: 6 false\n\
+15 20 03 02 29 02: 6 false\n\
+15 20 05 02 2902 2902: 8 false\n\
+15 3b 01 00 00 04 28 0a 03 ff*8 7f 02 04: 20 false\n\
+15 3b 01 00 01 04 28 0a 03 ff*8 7f 02 04: 20 false\n\
+15 3b 01 00 02 04 28 29 2a ff*8 7f 02 04: 20 false\n\
+15 3b 01 00 03 08 28 29 2a 2b 2c 2d 2e ff*8 7f 02 04: 24 false\n\
+15 3b 01 00 05 04 2900 42 2b00 2928 02 04: 15 false\n\
+15 20 06 02 29 02";
 
 #[test]
-fn nothing_where_the_list_has_another_type(rt: HostRuntime) -> Result<(), Fail> {
+fn lists_of_the_other_types(rt: HostRuntime) -> Result<(), Fail> {
     assert_shown(&rt, rt.alloc(), Kind::Polygon, OF_OTHER_TYPES)
 }
 
-/// None, one, and more than there are.
+/// None, one, an odd number where it must be even, and more than there are.
 const COUNTS: &str = "\
+15 20 00 03 29 02 29\n\
+15 20 01 03 29 02 29\n\
+15 20 02 01 29\n\
 15 20 04 00 2900 2900\n\
 15 20 04 01 2900 2900\n\
 15 20 04 03 2900 2900\n\
@@ -155,12 +163,13 @@ fn nothing_where_the_count_does_not_fit(rt: HostRuntime) -> Result<(), Fail> {
     assert_shown(&rt, rt.alloc(), Kind::Polygon, COUNTS)
 }
 
-/// A repetition; a count and a step of ten bytes; an id of two bytes; an info byte that no polygon has, and other ids.
+/// A repetition; a count and two kinds of steps of ten bytes; an id of two bytes; an info byte that no polygon has, and other ids.
 const OTHERS: &str = "\
 15 04 00: left\n\
 15 24 04 02 2900 0128 02 00 08: left\n\
 15 20 04 82 80*8 00 2900 2900: left\n\
 15 20 04 02 a9 80*8 00 00 2900: left\n\
+15 20 02 02 a9 80*8 00 29: left\n\
 9500 00: left\n\
 15 40 00\n\
 15 80 00\n\

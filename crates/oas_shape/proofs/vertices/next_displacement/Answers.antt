@@ -4,5 +4,5 @@ use Rattle.oas_num.specs.Deltas.{step}
 use Rattle.oas_shape.proofs.VertexLemmas.{stepped}
 use Rattle.oas_shape.proofs.vertices.next_displacement.Goals as goal
 
-pub returns-then-running-clause-value : goal.returns-then-running-clause-value
-returns-then-running-clause-value c = stepped c.args.running (step c.args.before.x c.args.before.y) c.args.delta _ _ c.if-running.true (omega (arith, ints)) (omega (arith, ints))
+pub returns-clause-value : goal.returns-clause-value
+returns-clause-value c = stepped (step c.args.before.x c.args.before.y) c.args.delta _ _ (omega (arith, ints)) (omega (arith, ints))

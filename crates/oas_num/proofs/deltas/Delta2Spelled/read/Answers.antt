@@ -14,4 +14,4 @@ returns-in_err-coded g c =
 pub returns : goal.returns
 returns g c =
     let read = is_read (starts_delta2 _) c.in_ok-coded.ensures in
-    rw c.delta2_from.ensures read
+    rw c.from_number.ensures read

@@ -33,5 +33,5 @@ returns-in_err-deltas g c =
     rw (p.1, p.2) (fails_last (with_count _ c.if-kind-gt-LAST_KIND.false (search (rules, c.fits.ensures.0, c.if-not-fits.false)) c.in_ok-kind.ensures c.in_ok-count.ensures) c.in_err-deltas.ensures)
 
 pub returns : goal.returns
-returns g c = rw c.of.ensures (is_read (with_count _ c.if-kind-gt-LAST_KIND.false (grind (arith, c.fits.ensures.0, c.if-not-fits.false))
+returns g c = rw c.of_kind.ensures (is_read (with_count _ c.if-kind-gt-LAST_KIND.false (grind (arith, c.fits.ensures.0, c.if-not-fits.false))
     c.in_ok-kind.ensures c.in_ok-count.ensures) c.in_ok-deltas.ensures)

@@ -1,8 +1,8 @@
 use Rattle.std.proofs.Common.{◌≡◌, ◌/◌, arith}
 use Rattle.std.specs.Prelude.{IsTrue}
-use Rattle.oas_peek.proofs.PolygonLemmas.{short_step, long_step, not_one}
-use Rattle.oas_peek.proofs.polygons.take_step.Goals as goal
-use Rattle.oas_peek.proofs.polygons.take_step.Goals.{then-first-ne1, else-first-ne1}
+use Rattle.oas_peek.proofs.ListLemmas.{short_step, long_step, not_one}
+use Rattle.oas_peek.proofs.lists.GDeltaStepAtHand.take.Goals as goal
+use Rattle.oas_peek.proofs.lists.GDeltaStepAtHand.take.Goals.{then-first-ne1, else-first-ne1}
 
 pub returns-then-first-eq0 : goal.returns-then-first-eq0
 returns-then-first-eq0 c = rw (c.from_numbers.ensures, c.note.ensures) (short_step c.in_ok-first.first c.if-first-eq0.true c.in_ok-first.ensures)
