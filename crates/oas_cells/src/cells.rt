@@ -73,10 +73,8 @@ impl<P: KeptBy> CompactCell<P> {
             ..
         } = self;
         place_all(P::profile(), &mut kept, waiting, names, strings)?;
-        match kept.close() {
-            Ok(run) => Ok(run),
-            Err(_) => Err(Why::Memory),
-        }
+        let run = kept.close()?;
+        Ok(run)
     }
 
     /// Draws an element this many more times, in its kept form.

@@ -1,8 +1,7 @@
 //! What waits for names, placed among the elements once these are known.
 
-ghost use Rattle.std.specs.Prelude.{◌≡◌, ◌+◌, ◌<◌, ◌^◌, OnOk, IfErr};
+ghost use Rattle.std.specs.Prelude.{◌≡◌, ◌+◌, ◌<◌, ◌^◌, OnOk};
 ghost use Rattle.std.specs.List.{AllByRecursion};
-ghost use Rattle.oas_num.specs.declared.refusals.Why.TheVariants.{Memory};
 ghost use Rattle.oas_elements.specs.Laws.BagLaws.{total};
 ghost use Rattle.oas_runs.specs.Blocks.{joined};
 ghost use Rattle.oas_reader.specs.Finish.{IsFit};
@@ -16,13 +15,13 @@ use crate::elements::ElementStore;
 use crate::short::Short;
 use crate::waiting::{Queue, Waiting};
 use oas_elements::Profile;
-use oas_num::{Label, Name, Why};
+use oas_num::{Label, Name};
 use oas_reader::{Drawn, NameTable};
 use std::alloc::AllocError;
 use std::collections::BTreeMap;
 
-/// Adds the element this many times, if its number has a name, whose bytes go into the key directly.
-fn add_meant(
+/// Places what was drawn this many times, if its number has a name, whose bytes go into the key directly.
+fn place_one(
     profile: Profile,
     kept: &mut ElementStore,
     drawn: Drawn,
@@ -63,30 +62,6 @@ fn add_meant(
     }
 }
 
-/// Places what was drawn this many times, if its number has a name.
-fn place_one(
-    profile: Profile,
-    kept: &mut ElementStore,
-    drawn: Drawn,
-    times: u64,
-    names: &NameTable<Name>,
-    strings: &NameTable<Label>,
-) -> Result<(), Why>
-    requires some { 0 < times }
-    requires fit { IsFit drawn }
-    requires room { total (λ _. 1) kept.old + times < 2 ^ 64 }
-    requires keys { AreKeys profile kept.old }
-    ensures placed { OnOk result (kept.new ≡ with_placed profile (element_by names.now.named strings.now.named drawn) times kept.old) }
-    ensures keys { OnOk result (AreKeys profile kept.new) }
-    ensures sound { OnOk result (IsSoundBy names.now.named strings.now.named drawn) }
-    ensures err { IfErr result (λ why. why ≡ Memory) }
-{
-    match add_meant(profile, kept, drawn, times, names, strings) {
-        Ok(()) => Ok(()),
-        Err(_) => Err(Why::Memory),
-    }
-}
-
 /// Places what waits in few bytes, where its numbers have names.
 fn place_shorts(
     profile: Profile,
@@ -94,14 +69,13 @@ fn place_shorts(
     shorts: Vec<Short>,
     names: &NameTable<Name>,
     strings: &NameTable<Label>,
-) -> Result<(), Why>
+) -> Result<(), AllocError>
     requires waits { AllByRecursion Waits (drawn_once shorts.items) }
     requires room { total (λ _. 1) kept.old + total (λ _. 1) (drawn_once shorts.items) < 2 ^ 64 }
     requires keys { AreKeys profile kept.old }
     ensures placed { OnOk result (kept.new ≡ placed profile names.now.named strings.now.named (drawn_once shorts.items) kept.old) }
     ensures keys { OnOk result (AreKeys profile kept.new) }
     ensures sound { OnOk result (AreSoundBy names.now.named strings.now.named (drawn_once shorts.items)) }
-    ensures err { IfErr result (λ why. why ≡ Memory) }
 {
     for short in shorts {
         place_one(profile, kept, short.drawn(), 1, names, strings)?;
@@ -116,14 +90,13 @@ fn place_chunk(
     chunk: Chunk,
     names: &NameTable<Name>,
     strings: &NameTable<Label>,
-) -> Result<(), Why>
+) -> Result<(), AllocError>
     requires waits { AllByRecursion Waits chunk }
     requires room { total (λ _. 1) kept.old + total (λ _. 1) chunk < 2 ^ 64 }
     requires keys { AreKeys profile kept.old }
     ensures placed { OnOk result (kept.new ≡ placed profile names.now.named strings.now.named chunk kept.old) }
     ensures keys { OnOk result (AreKeys profile kept.new) }
     ensures sound { OnOk result (AreSoundBy names.now.named strings.now.named chunk) }
-    ensures err { IfErr result (λ why. why ≡ Memory) }
 {
     place_shorts(profile, kept, chunk.shorts, names, strings)
 }
@@ -135,14 +108,13 @@ fn place_chunks(
     chunks: Vec<Chunk>,
     names: &NameTable<Name>,
     strings: &NameTable<Label>,
-) -> Result<(), Why>
+) -> Result<(), AllocError>
     requires waits { AllByRecursion Waits (joined chunks.items) }
     requires room { total (λ _. 1) kept.old + total (λ _. 1) (joined chunks.items) < 2 ^ 64 }
     requires keys { AreKeys profile kept.old }
     ensures placed { OnOk result (kept.new ≡ placed profile names.now.named strings.now.named (joined chunks.items) kept.old) }
     ensures keys { OnOk result (AreKeys profile kept.new) }
     ensures sound { OnOk result (AreSoundBy names.now.named strings.now.named (joined chunks.items)) }
-    ensures err { IfErr result (λ why. why ≡ Memory) }
 {
     for chunk in chunks {
         place_chunk(profile, kept, chunk, names, strings)?;
@@ -157,14 +129,13 @@ fn place_counted(
     waiting: BTreeMap<Drawn, u64>,
     names: &NameTable<Name>,
     strings: &NameTable<Label>,
-) -> Result<(), Why>
+) -> Result<(), AllocError>
     requires waits { AllByRecursion Waits waiting.entries }
     requires room { total (λ _. 1) kept.old + total (λ _. 1) waiting.entries < 2 ^ 64 }
     requires keys { AreKeys profile kept.old }
     ensures placed { OnOk result (kept.new ≡ placed profile names.now.named strings.now.named waiting.entries kept.old) }
     ensures keys { OnOk result (AreKeys profile kept.new) }
     ensures sound { OnOk result (AreSoundBy names.now.named strings.now.named waiting.entries) }
-    ensures err { IfErr result (λ why. why ≡ Memory) }
 {
     for (drawn, times) in waiting {
         place_one(profile, kept, drawn, times, names, strings)?;
@@ -179,19 +150,16 @@ fn place_queue(
     queue: Queue,
     names: &NameTable<Name>,
     strings: &NameTable<Label>,
-) -> Result<(), Why>
+) -> Result<(), AllocError>
     requires waits { AllByRecursion Waits queue }
     requires room { total (λ _. 1) kept.old + total (λ _. 1) queue < 2 ^ 64 }
     requires keys { AreKeys profile kept.old }
     ensures placed { OnOk result (kept.new ≡ placed profile names.now.named strings.now.named queue kept.old) }
     ensures keys { OnOk result (AreKeys profile kept.new) }
     ensures sound { OnOk result (AreSoundBy names.now.named strings.now.named queue) }
-    ensures err { IfErr result (λ why. why ≡ Memory) }
 {
     let Queue { chunks, others } = queue;
-    let Ok(row) = chunks.into_row() else {
-        return Err(Why::Memory);
-    };
+    let row = chunks.into_row()?;
     place_chunks(profile, kept, row, names, strings)?;
     place_counted(profile, kept, others, names, strings)?;
     Ok(())
@@ -204,14 +172,13 @@ pub(crate) fn place_all(
     waiting: Waiting,
     names: &NameTable<Name>,
     strings: &NameTable<Label>,
-) -> Result<(), Why>
+) -> Result<(), AllocError>
     requires waits { AllByRecursion Waits waiting }
     requires room { total (λ _. 1) kept.old + total (λ _. 1) waiting < 2 ^ 64 }
     requires keys { AreKeys profile kept.old }
     ensures placed { OnOk result (kept.new ≡ placed profile names.now.named strings.now.named waiting kept.old) }
     ensures keys { OnOk result (AreKeys profile kept.new) }
     ensures sound { OnOk result (AreSoundBy names.now.named strings.now.named waiting) }
-    ensures err { IfErr result (λ why. why ≡ Memory) }
 {
     match waiting.queue {
         Some(queue) => place_queue(profile, kept, Box::into_inner(queue), names, strings),

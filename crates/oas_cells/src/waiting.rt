@@ -1,9 +1,7 @@
 //! What is drawn by a number, whose name may come later.
 
-ghost use Rattle.std.specs.Prelude.{◌≡◌, ◌+◌, ◌<◌, ◌^◌, [], unwrap_or, OnOk, OnErr, IfSome, IsTrue};
-ghost use Rattle.std.specs.BTreeMap.{get, insert_entry, IsOrdered, IsUnchanged};
+ghost use Rattle.std.specs.Prelude.{◌≡◌, ◌+◌, ◌<◌, ◌^◌, [], OnOk, OnErr, IfSome, IsTrue};
 ghost use Rattle.oas_elements.specs.Laws.BagLaws.{total};
-ghost use Rattle.oas_reader.specs.DrawnLaws.{derived_cmp};
 ghost use Rattle.oas_cells.specs.Compact.{WaitsMore};
 ghost use Rattle.oas_cells.specs.Short.{drawn_of};
 ghost use Rattle.oas_cells.specs.Weighing.{waiting_weight};
@@ -11,6 +9,7 @@ ghost use Rattle.oas_cells.specs.Weighing.{waiting_weight};
 use crate::chunks::Chunks;
 use crate::short::Short;
 use crate::weighing::both_weights;
+use oas_elements::count_up;
 use oas_num::{Label, Name};
 use oas_reader::{Drawn, NameTable};
 use std::alloc::{AllocError, Global};
@@ -168,19 +167,4 @@ fn short_once(drawn: &Drawn, times: u64) -> Option<Short>
         return Short::of(drawn);
     }
     None
-}
-
-/// Adds to the count of something, in one search for its place, or changes nothing.
-fn count_up(held: &mut BTreeMap<Drawn, u64>, drawn: Drawn, times: u64) -> Result<(), AllocError>
-    requires { unwrap_or (get derived_cmp held.old drawn) 0 + times < 2 ^ 64 }
-    ensures entries { OnOk result (held.new.entries ≡ insert_entry derived_cmp held.old.entries drawn (unwrap_or (get derived_cmp held.old drawn) 0 + times)) }
-    ensures ordered { OnOk result (IsOrdered derived_cmp held.new) }
-    ensures err { OnErr result (IsUnchanged held.old held.new) }
-{
-    let entry = match held.entry(drawn) {
-        Ok(entry) => entry,
-        Err(_) => return Err(AllocError),
-    };
-    *entry.or_insert(0) += times;
-    Ok(())
 }

@@ -1,7 +1,7 @@
 -- where vertices are
 use Rattle.std.proofs.Common.{◌≡◌, List, [], ◌∷◌, refl, ap, ◌∙◌, arith, Bool, true, false, ◌⊎◌, inl, inr}
 use Rattle.std.proofs.lemmas.Int.{ints}
-use Rattle.std.specs.Prelude.{ℤ, pos, ◌+ℤ◌, ◌^◌, ◌&&◌, not, Option, None, Some}
+use Rattle.std.specs.Prelude.{IsTrue, ◌↔◌, ℤ, pos, ◌+ℤ◌, ◌^◌, ◌&&◌, not, Option, None, Some}
 use Rattle.std.specs.List.{list_all, AllByRecursion}
 use Rattle.oas_num.specs.declared.refusals.Why.{Why}
 use Rattle.oas_num.specs.declared.refusals.Why.TheVariants.{CoordinateRange, Memory}
@@ -45,6 +45,23 @@ not_moved at = ap (λ (x : ℤ). record { x = x; y = at.y +ℤ pos 0 }) (plus_ze
 
 first_off : (p q : Point) (b : Bool) → p ≡ q → is_grid_point q ≡ false → (is_grid_point p && b) ≡ false
 first_off p q b e h = ap (λ (r : Point). is_grid_point r && b) e ∙ ap (λ (c : Bool). c && b) h
+
+on_coordinate : (x : ℤ) → IsBounded (2 ^ 60) x → is_coordinate x ≡ true
+on_coordinate x h = let low = h.0 in let high = h.1 in grind (arith, ints)
+
+on_point : (p : Point) → IsInRange p → is_grid_point p ≡ true
+on_point p h = (λ i. on_coordinate p.x h.x i && on_coordinate p.y h.y i)
+
+all_on_grid : (ps : List Point) → AllByRecursion IsInRange ps → list_all is_grid_point ps ≡ true
+all_on_grid [] all = refl
+all_on_grid (p ∷ ps) all = (λ i. on_point p all.0 i && all_on_grid ps all.1 i)
+
+-- whether vertices are within the limits is whether they are within the grid
+pub answered : (answer : Bool) (ps : List Point) → IsTrue answer ↔ AllByRecursion IsInRange ps → list_all is_grid_point ps ≡ answer
+answered true ps a = all_on_grid ps (a.0 refl)
+answered false ps a = far_vertices ps (λ all. false_is_no (a.1 all)) where
+  false_is_no : false ≡ true → ⊥
+  false_is_no e = cc
 
 -- those of a position outside the grid, which is the first of them
 pub off_vertices : (line : Polyline) (at : Point) → is_grid_point at ≡ false → list_all is_grid_point (vertices_of line at) ≡ false

@@ -8,5 +8,6 @@ pub mod Drawn
 pub mod Turns
 pub mod Drawing
 pub mod Reasons
+pub mod Tallies
 pub mod Named
 pub mod Laws

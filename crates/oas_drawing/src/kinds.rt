@@ -11,6 +11,7 @@ ghost use Rattle.oas_drawing.specs.Drawing.{kind_of, repeats, is_geometry, kind_
 ghost use Rattle.oas_drawing.specs.GivenFields.{no_spot, given_fields, with_geometry};
 ghost use Rattle.oas_record.specs.declared.spots.Spot.{Spot as OneSpot};
 ghost use Rattle.oas_drawing.specs.Reasons.{fault_of, MayRunOut};
+ghost use Rattle.oas_drawing.specs.Tallies.{IsTallied};
 
 mod circles;
 mod paths;
@@ -21,6 +22,8 @@ mod texts;
 
 use crate::drawn::Drawn;
 use crate::modal::ModalVariables;
+use crate::modal::copying::tally_within;
+use crate::tally::Tally;
 use crate::turning::turned;
 use oas_num::Why;
 use oas_record::{Circle, Path, Polygon, Record, Rectangle, Spot, Turn};
@@ -218,6 +221,21 @@ impl ModalVariables {
             Kind::Polygon => self.polygon_by(alloc, by),
             Kind::Path => self.path_by(alloc, by),
             Kind::Circle => self.circle_by(by),
+        }
+    }
+
+    /// What the element of a kind, moved by an offset, counts for.
+    pub(crate) fn tally_by(&self, kind: &Kind, by: (i128, i128)) -> Result<Tally, Why>
+        ensures ok { IfOk result (λ t. IsTallied (drawn_by self.now kind.now (step by.0 by.1)) t) }
+        ensures err { IfErr result (λ why. fault_of (drawn_by self.now kind.now (step by.0 by.1)) ≡ Some why) }
+    {
+        match kind {
+            Kind::Placement { .. } => self.placement_tally(by),
+            Kind::Text => self.text_tally(by),
+            Kind::Rectangle => tally_within(&self.rectangle_by(by)?),
+            Kind::Polygon => self.polygon_tally(by),
+            Kind::Path => self.path_tally(by),
+            Kind::Circle => tally_within(&self.circle_by(by)?),
         }
     }
 }

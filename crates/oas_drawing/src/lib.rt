@@ -13,6 +13,8 @@
 //!   and why it is refused, `draw_reason` (specs/Reasons.antt). [`ModalVariables::copies`] and [`ModalVariables::copy`]
 //!   compute these, copy by copy; the cell or the string of a [`Drawn`] element may still be a number.
 //!   [`ModalVariables::one_rectangle`] does both at once for a rectangle without a repetition.
+//!   [`ModalVariables::tally`] says what a copy counts for, its weight and its number ([`Tally`], specs/Tallies.antt), without
+//!   drawing it: it is refused as `copy` refuses it, and needs no memory.
 //! - For a placement or a text at hand [`ModalVariables::set_fields`] sets all except its name.
 //!   [`ModalVariables::check_named`] then says why it is refused, using the name that it gives, before that name is the modal
 //!   one: so whatever refuses it comes before out of memory. [`ModalVariables::set_name`] makes its name the modal one, and
@@ -47,14 +49,15 @@
 //!   none. Where memory may run out depends on the element that is drawn, not on the kind of its record (`MayRunOut`,
 //!   Reasons.antt).
 //!   src/modal/checking.rt: `copies`, all that can be decided before a copy is made. src/modal/copying.rt: `places`,
-//!   where they stand, and `copy`, one of them. src/kinds/rectangles.rt has besides `one_rectangle`, what these come to for
-//!   a rectangle that stands once, as often most records of a file are, in one look at four variables and the position;
-//!   named.rt: the same of a placement or a text, in four steps: its fields are set (`set_fields`), it is judged by the
-//!   name that it gives (`check_named`), that becomes the modal one in the memory of the one before (`set_name`), and it is
-//!   drawn with the name where it stands (`one_named`; `DrawnOnce`, src/once.rt). So out of memory for a name comes after
-//!   all that refuses the record. proofs/Copies.antt joins them to the list.
+//!   where they stand, `copy`, one of them, and `tally`, what it counts for: of a polygon or a path its vertices are only
+//!   looked at, and of a placement or a text no name is copied. src/kinds/rectangles.rt has besides `one_rectangle`, what
+//!   these come to for a rectangle that stands once, as often most records of a file are, in one look at four variables and
+//!   the position; named.rt: the same of a placement or a text, in four steps: its fields are set (`set_fields`), it is
+//!   judged by the name that it gives (`check_named`), that becomes the modal one in the memory of the one before
+//!   (`set_name`), and it is drawn with the name where it stands (`one_named`; `DrawnOnce`, src/once.rt). So out of memory
+//!   for a name comes after all that refuses the record. proofs/Copies.antt joins them to the list.
 //! - src/drawn.rt, specs/Drawn.antt, DrawnLaws.antt: what a record gives at one place, and its order: that of elements,
-//!   extended to numbers.
+//!   extended to numbers. src/tally.rt: what it counts for.
 #![tactic(auto)]
 
 mod drawn;
@@ -63,6 +66,7 @@ pub mod laws;
 mod modal;
 mod once;
 mod positions;
+mod tally;
 mod turning;
 
 pub use drawn::Drawn;
@@ -70,3 +74,4 @@ pub use kinds::{Geometry, Kind, is_geometry, repeats, take_repetition, with_geom
 pub use modal::ModalVariables;
 pub use once::DrawnOnce;
 pub use positions::Position;
+pub use tally::{Tally, UsedNumber};

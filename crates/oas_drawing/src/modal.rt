@@ -161,6 +161,6 @@ pub(crate) fn take_repetition(variable: &mut Option<Repetition>, given: &mut Opt
 }
 
 mod checking;
-mod copying;
+pub(crate) mod copying;
 pub(crate) mod drawing;
 mod named;

@@ -23,6 +23,7 @@
 //!
 //! | src/ | What |
 //! |---|---|
+//! | counts.rt | a count that grows, in a map by key |
 //! | element.rt | the six kinds of element, quarter turns, weight |
 //! | kinds.rt | elements by the names of their fields: which field is where in the definitions |
 //! | grid.rt | the grid, and which elements are within it |
@@ -49,6 +50,7 @@
 //! of kept forms.
 #![tactic(auto)]
 
+mod counts;
 mod element;
 mod grid;
 mod kept;
@@ -58,6 +60,7 @@ mod limits;
 mod profile;
 mod sound;
 
+pub use counts::count_up;
 pub use element::{Element, Turns};
 pub use kinds::{Extensions, Layer};
 pub use limits::Limits;

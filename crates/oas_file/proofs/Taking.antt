@@ -29,6 +29,8 @@ use Rattle.oas_reader.specs.Stands.{ReaderState, Represents, refusal as refusal_
 use Rattle.oas_file.specs.Files.{PrefixOf}
 use Rattle.oas_file.specs.Acceptance.{Allowed, Accepted}
 use Rattle.oas_file.specs.Deciding.{TheNext, IsReasoned}
+use Rattle.oas_file.specs.declared.records.Found.{Found}
+use Rattle.oas_file.specs.Finding.{IsAtHand}
 use Rattle.oas_file.specs.Gathering.{inner_in, HasBegun, HasGathered, HasAll, HasTakenOne, RefusesOne}
 use Rattle.oas_file.specs.Places.{ByRecord}
 use Rattle.oas_file.specs.Reading.{IsPlaced, Refuses}
@@ -169,3 +171,7 @@ named_read {ahead = ahead} in_end is takes = record { bytes = _; takes = takes; 
 -- and a polygon or a path
 pub figure_read : {old new : Script} {bytes : List ℕ} {ahead : PeekedFigure} (in_end : Bool) → IsPeekedFigure bytes ahead → Consumed old (take ahead.length bytes) new → ReadsValue (inner_in in_end) old ahead.record new
 figure_read in_end is takes = record { bytes = _; takes = takes; spelled = record { holds = is.inner; spelled = is.spelled in_end } }
+
+-- and any record
+pub hand_read : {old new : Script} {bytes : List ℕ} {in_end : Bool} {found : Found} → IsAtHand in_end bytes found → Consumed old (take found.length bytes) new → ReadsValue (inner_in in_end) old found.record new
+hand_read is takes = record { bytes = _; takes = takes; spelled = is.spelled }

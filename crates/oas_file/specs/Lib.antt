@@ -24,4 +24,5 @@ pub mod Places
 pub mod Deciding
 pub mod Reading
 pub mod Gathering
+pub mod Finding
 pub mod Laws

@@ -5,7 +5,7 @@
 //!
 //! - The parts of reading a file: [`take_record`] takes the next record, or END (`ConsumesNext`, specs/Gathering.antt);
 //!   [`take_records`] gives all of them to a reader, with any stores (`Gathers`); [`find_end_of_input`] finds that nothing
-//!   follows (`FindsEnd`).
+//!   follows (`FindsEnd`). [`find_record`] finds a record that is at hand (`IsAtHand`, specs/Finding.antt).
 //! - What a crate that reads a layout with them promises: `ReadsLayout` (specs/Reading.antt). The layout is the same as the
 //!   file's meaning, and in order (`IsLayout` of oas_elements), so there is only one. The clauses cover both outcomes. A
 //!   refusal with a reason of the bytes says that no accepted file begins with what was taken. `Why::Truncated` says that
@@ -35,11 +35,13 @@
 //! run out of memory: three cases of `OutOfMemoryAt` |
 //! | Reading | what reading a layout does |
 //! | Gathering | what its parts do: one record, all records, the end of the input |
+//! | Finding | a record at hand |
 //!
-//! src/reading.rt is all of the code: each record goes by value to a `Reader` of oas_reader until END (`take_next`), and then
-//! comes the end of the input. oas_peek reads a rectangle, a placement, a text, a polygon or a path at hand faster; the id of
-//! the record says which of these to try. A crate above reads START before (oas_record), and decides END after: so a byte
-//! after END is refused before what END itself refuses.
+//! src/reading.rt: each record goes by value to a `Reader` of oas_reader until END (`take_next`), and then comes the end of the
+//! input. A record at hand is read from the bytes there, and as many are skipped: a rectangle, a placement, a text, a polygon
+//! or a path by oas_peek, where the id of the record says which of these to try, and any other by src/records.rt. One that
+//! isn't at hand is read from the source. A crate above reads START before (oas_record), and decides END after: so a byte after
+//! END is refused before what END itself refuses.
 //!
 //! How the proof goes.
 //!
@@ -72,7 +74,9 @@
 
 pub mod laws;
 mod reading;
+mod records;
 
 // The crates below, for those above.
 pub use oas_reader::{CellStore, CountedCell, NameTable, Reader, Taken, accept_cells, cell_meant};
-pub use reading::{find_end_of_input, take_record, take_records};
+pub use reading::{find_end_of_input, take_records};
+pub use records::{Found, find_record, take_record};

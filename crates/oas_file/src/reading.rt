@@ -1,30 +1,20 @@
 //! From a source to a reader: one record, all records, and the end of the input.
 ghost use Rattle.std.specs.Prelude.{◌≡◌, Bool};
 ghost use Rattle.oas_peek.specs.Peeked.{IsPeeked};
-ghost use Rattle.oas_file.specs.Gathering.{ConsumesNext, ConsumesOne, Gathers, FindsEnd};
+ghost use Rattle.oas_file.specs.Gathering.{ConsumesOne, Gathers, FindsEnd};
 
+use crate::records::{find_record, take_record};
 use oas_num::{Refusal, Source, SourceFault, Why};
-use oas_peek::{PeekedRectangle, peek_figure, peek_full_rectangle, peek_named, peek_rectangle};
+use oas_peek::{
+    KindAtHand, PeekedRectangle, kind_at_hand, peek_figure, peek_full_rectangle, peek_named,
+    peek_rectangle,
+};
 use oas_reader::{CellStore, Reader};
-use oas_record::{Head, Record};
+use oas_record::Head;
 use std::alloc::Global;
 
-/// Takes the next record, and returns None where it is END.
-pub fn take_record<S: Source>(
-    alloc: Global,
-    source: &mut S,
-    flag_in_end: bool,
-) -> Result<Option<Record>, Refusal>
-    ensures { ConsumesNext flag_in_end (S.script source.old) result (S.script source.new) }
-{
-    match Record::read(alloc, source, flag_in_end)? {
-        Record::End => Ok(None),
-        record => Ok(Some(record)),
-    }
-}
-
-/// Gives the reader the next record, which starts at byte `at`, and returns false where it is END. A polygon or a path at
-/// hand is read the faster way.
+/// Gives the reader the next record, which starts at byte `at`, and returns false where it is END. A record at hand is read
+/// from the bytes there, which are skipped, and a polygon or a path the faster way.
 ///
 /// It is a function of its own since whole records are moved here, and a call begins by clearing room for each of them.
 #[inline(never)]
@@ -41,6 +31,11 @@ fn take_other<S: Source, C: CellStore>(
     if let Some(figure) = peek_figure(alloc, source.ahead()) {
         source.skip(figure.length);
         reader.take(at, figure.record)?;
+        return Ok(true);
+    }
+    if let Some(found) = find_record(alloc, source.ahead(), flag_in_end) {
+        source.skip(found.length);
+        reader.take(at, found.record)?;
         return Ok(true);
     }
     let Some(record) = take_record(alloc, source, flag_in_end)? else {
@@ -123,9 +118,9 @@ fn take_next<S: Source, C: CellStore>(
     if let Some(found) = peek_full_rectangle(source.ahead()) {
         return take_found(source, at, found, reader);
     }
-    match source.ahead() {
-        [20, ..] => take_rectangle(alloc, source, flag_in_end, at, reader),
-        [17 | 19, ..] => take_named(alloc, source, flag_in_end, at, reader),
+    match kind_at_hand(source.ahead()) {
+        KindAtHand::Rectangle => take_rectangle(alloc, source, flag_in_end, at, reader),
+        KindAtHand::Named => take_named(alloc, source, flag_in_end, at, reader),
         _ => take_other(alloc, source, flag_in_end, at, reader),
     }
 }

@@ -8,7 +8,7 @@ use Rattle.std.specs.List.Sorted.{IsStrictlySortedBy}
 use Rattle.std.specs.Ordering.{is_eq}
 use Rattle.std.specs.declared.cmp.Ordering.{Ordering}
 use Rattle.std.specs.Map.{lookup, keys_of}
-use Rattle.std.specs.BTreeMap.{BTreeMap, is_at, get, Updates, IsOrdered}
+use Rattle.std.specs.BTreeMap.{BTreeMap, is_at, get, insert_entry, IsOrdered}
 use Rattle.std.proofs.lemmas.Map.Views.{tells_apart}
 use Rattle.std.proofs.lemmas.List.{length-replicate}
 use Rattle.std.proofs.lemmas.List.Folds.{sum_by-replicate}
@@ -24,6 +24,7 @@ use Rattle.oas_info.specs.declared.totals.Totals.{Totals}
 use Rattle.oas_info.specs.Groups.{group_cmp, kind_of, layer_of, if_same, if_in, count_of, number_of, IsTally, Grows}
 use Rattle.oas_info.specs.Laws.GroupLaws.{derived_cmp, stated_cmp, group_total, exact_groups}
 use Rattle.oas_info.specs.Totals.{Amounts, of_elements, of_cell, of_cells, HasRoom, Added, AreTotals}
+use Rattle.oas_info.proofs.LookupLemmas.{lookup-insert_entry}
 
 -- ---- one group
 
@@ -31,9 +32,16 @@ use Rattle.oas_info.specs.Totals.{Amounts, of_elements, of_cell, of_cells, HasRo
 by_stated : (m : BTreeMap Group ℕ) (g : Group) → get derived_cmp m g ≡ lookup (is_at (group_cmp g)) m.entries
 by_stated m g = ap (λ (R : Group → Group → Ordering). lookup (is_at (R g)) m.entries) stated_cmp
 
-module _ (old new : BTreeMap Group ℕ) (k : Group) (n : ℕ) (some : 0 < n) (updates : Updates derived_cmp old new k (Some (unwrap_or (get derived_cmp old k) 0 + n))) where
+-- n more are counted in a group
+abbrev pub IsCounted : BTreeMap Group ℕ → BTreeMap Group ℕ → Group → ℕ → Type 0
+IsCounted old new k n = new.entries ≡ insert_entry derived_cmp old.entries k (unwrap_or (get derived_cmp old k) 0 + n)
+
+module _ (old new : BTreeMap Group ℕ) (k : Group) (n : ℕ) (some : 0 < n) (is : IsCounted old new k n) where
+  stated : new.entries ≡ insert_entry group_cmp old.entries k (number_of old.entries k + n)
+  stated = is ∙ (λ i. insert_entry (stated_cmp i) old.entries k (unwrap_or (by_stated old k i) 0 + n))
+
   found : (g : Group) → lookup (is_at (group_cmp g)) new.entries ≡ cond (is_eq (group_cmp k g)) (Some (number_of old.entries k + n)) (lookup (is_at (group_cmp g)) old.entries)
-  found g = sym (by_stated new g) ∙ updates.0 g ∙ (λ i. cond (is_eq (stated_cmp i k g)) (Some (unwrap_or (by_stated old k i) 0 + n)) (by_stated old g i))
+  found g = ap (λ (ns : List (Group × ℕ)). lookup (is_at (group_cmp g)) ns) stated ∙ lookup-insert_entry group_total k g (number_of old.entries k + n) old.entries
 
   pub grows : Grows (λ g. if_same n g k) old.entries new.entries
   grows g = ap (λ (o : Option ℕ). unwrap_or o 0) (found g) ∙ by_same (is_eq (group_cmp k g)) refl where
@@ -70,31 +78,31 @@ module _ (k : Group) (o : Option Group) (n : ℕ) (some : 0 < n) (old : BTreeMap
     pub kind_room : unwrap_or (get derived_cmp old k) 0 + n < 2 ^ 64
     kind_room = omega (arith, room k, ap (λ (o : Option ℕ). unwrap_or o 0) (by_stated old k), in_groups n k k o, itself n k)
 
-    pub layer_room : (mid : BTreeMap Group ℕ) → Updates derived_cmp old mid k (Some (unwrap_or (get derived_cmp old k) 0 + n)) → (h : Group) → o ≡ Some h → unwrap_or (get derived_cmp mid h) 0 + n < 2 ^ 64
-    layer_room mid updates h layer = omega (
+    pub layer_room : (mid : BTreeMap Group ℕ) → IsCounted old mid k n → (h : Group) → o ≡ Some h → unwrap_or (get derived_cmp mid h) 0 + n < 2 ^ 64
+    layer_room mid counted h layer = omega (
       arith,
       room h,
       ap (λ (o : Option ℕ). unwrap_or o 0) (by_stated mid h),
-      grows old mid k n some updates h,
+      grows old mid k n some counted h,
       in_groups n h k o,
       ap (of_layer n h) layer,
       itself n h,
     )
 
-  module _ (mid : BTreeMap Group ℕ) (updates : Updates derived_cmp old mid k (Some (unwrap_or (get derived_cmp old k) 0 + n))) where
+  module _ (mid : BTreeMap Group ℕ) (counted : IsCounted old mid k n) where
     pub kind_counted : o ≡ None → Grows (λ g. sum_by (if_same n g) (k ∷ option_to_list o)) old.entries mid.entries
-    kind_counted none g = omega (arith, grows old mid k n some updates g, in_groups n g k o, ap (of_layer n g) none)
+    kind_counted none g = omega (arith, grows old mid k n some counted g, in_groups n g k o, ap (of_layer n g) none)
 
     pub layer_counted : (h : Group) → o ≡ Some h → (new : BTreeMap Group ℕ) (r : Result Unit AllocError) →
-        OnOk r (Updates derived_cmp mid new h (Some (unwrap_or (get derived_cmp mid h) 0 + n))) → OnOk r (Grows (λ g. sum_by (if_same n g) (k ∷ option_to_list o)) old.entries new.entries)
-    layer_counted h layer new (Ok u) second = λ g. omega (arith, grows old mid k n some updates g, grows mid new h n some second g, in_groups n g k o, ap (of_layer n g) layer)
+        OnOk r (IsCounted mid new h n) → OnOk r (Grows (λ g. sum_by (if_same n g) (k ∷ option_to_list o)) old.entries new.entries)
+    layer_counted h layer new (Ok u) second = λ g. omega (arith, grows old mid k n some counted g, grows mid new h n some second g, in_groups n g k o, ap (of_layer n g) layer)
     layer_counted h layer new (Err x) second = tt
 
 pub layer_tally : (mid new : BTreeMap Group ℕ) (h : Group) (n : ℕ) (r : Result Unit AllocError) → 0 < n →
-    OnOk r (Updates derived_cmp mid new h (Some (unwrap_or (get derived_cmp mid h) 0 + n))) → OnOk r (IsOrdered derived_cmp new) → IsTally mid.entries →
+    OnOk r (IsCounted mid new h n) → OnOk r (IsOrdered derived_cmp new) → IsTally mid.entries →
     OnOk r (IsTally new.entries)
-layer_tally mid new h n (Ok u) some updates ordered t = tally mid new h n some updates t ordered
-layer_tally mid new h n (Err x) some updates ordered t = tt
+layer_tally mid new h n (Ok u) some counted ordered t = tally mid new h n some counted t ordered
+layer_tally mid new h n (Err x) some counted ordered t = tt
 
 -- ---- an element
 

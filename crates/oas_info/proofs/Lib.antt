@@ -1,3 +1,4 @@
+mod LookupLemmas
 pub mod CountingLemmas
 pub mod NameLemmas
 pub mod JsonLemmas

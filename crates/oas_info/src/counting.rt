@@ -1,19 +1,18 @@
 //! Counting the elements of a layout, by their groups and in all.
 
-ghost use Rattle.std.specs.Prelude.{◌≡◌, ◌+◌, ◌<◌, ◌^◌, ◌∷◌, Some, option_to_list, replicate, sum_by, unwrap_or, OnOk, IfOk};
+ghost use Rattle.std.specs.Prelude.{◌≡◌, ◌+◌, ◌<◌, ◌^◌, ◌∷◌, Some, option_to_list, replicate, sum_by, OnOk, IfOk};
 ghost use Rattle.std.specs.List.{AllByRecursion};
-ghost use Rattle.std.specs.BTreeMap.{Updates, IsOrdered, get};
 ghost use Rattle.oas_elements.specs.Bag.{items};
 ghost use Rattle.oas_elements.specs.Contents.{meaning_of};
 ghost use Rattle.oas_elements.specs.Weight.{weight_of};
 ghost use Rattle.oas_info.specs.declared.group.Group.{Group as GroupOf};
 ghost use Rattle.oas_info.specs.declared.group.Group.TheVariants.{Layer};
 ghost use Rattle.oas_info.specs.Groups.{kind_of, layer_of, if_same, number_of, IsTally, Grows};
-ghost use Rattle.oas_info.specs.Laws.GroupLaws.{derived_cmp};
 ghost use Rattle.oas_info.specs.Totals.{of_elements, of_cell, HasRoom, Added, AreTotals};
 
 use crate::group::Group;
 use crate::totals::Totals;
+use oas_elements::count_up;
 use oas_writing::{Elements, KeyedElement, Layout, ShownElement, show};
 use std::alloc::{AllocError, Global};
 use std::collections::BTreeMap;
@@ -90,21 +89,6 @@ fn aspects_of(element: &KeyedElement<'_>) -> Aspects
             ..
         } => Aspects::of_shape(Group::Circles, layer, datatype, 0),
     }
-}
-
-/// Adds this many elements to a group.
-fn count_up(numbers: &mut BTreeMap<Group, u64>, group: Group, times: u64) -> Result<(), AllocError>
-    requires { unwrap_or (get derived_cmp numbers.old group) 0 + times < 2 ^ 64 }
-    ensures updates { OnOk result (Updates derived_cmp numbers.old numbers.new group (Some (unwrap_or (get derived_cmp numbers.old group) 0 + times))) }
-    ensures ordered { OnOk result (IsOrdered derived_cmp numbers.new) }
-{
-    match numbers.get_mut(&group) {
-        Some(number) => *number += times,
-        None => {
-            numbers.insert(group, times)?;
-        }
-    }
-    Ok(())
 }
 
 /// Adds this many elements to their kind, and to their layer if they have one.

@@ -14,7 +14,7 @@ use Rattle.oas_record.specs.declared.paths.Extension.{Extension}
 use Rattle.oas_record.specs.declared.paths.Extension.TheVariants.{Explicit, Modal, Flush, Half}
 use Rattle.oas_record.specs.declared.paths.Extensions.{Extensions}
 use Rattle.oas_peek.specs.declared.figures.PeekedFigure.{PeekedFigure}
-use Rattle.oas_peek.specs.Figures.{IsFigure, IsPeekedFigure}
+use Rattle.oas_peek.specs.Figures.{HasPlainList, IsPeekedFigure}
 use Rattle.oas_elements.specs.declared.element.Element.{Element}
 use Rattle.oas_elements.specs.declared.element.Element.TheVariants.{Polygon, Path}
 use Rattle.oas_writing.specs.Drawn.TheVariants.{Named}
@@ -141,11 +141,11 @@ path_so layer datatype half_width start end points (Some x) (Some y) (Some repet
 
 -- ---- for either
 
-figure_is : (r : Record) (e : Element) → IsFigure r → own_drawn r ≡ Some (Named e) → element_record e ≡ r
-figure_is (record_of.Polygon p) e figure is = polygon_so p.layer p.datatype p.points p.spot.x p.spot.y p.spot.repetition e figure.1 is
-figure_is (record_of.Path p) e figure is =
-    path_so p.layer p.datatype p.half_width (start_given p.extensions) (end_given p.extensions) p.points p.spot.x p.spot.y p.spot.repetition p.extensions e refl refl figure.1 is
-figure_is _ e figure is = absurd figure
+figure_is : (r : Record) (e : Element) → HasPlainList r → own_drawn r ≡ Some (Named e) → element_record e ≡ r
+figure_is (record_of.Polygon p) e plain is = polygon_so p.layer p.datatype p.points p.spot.x p.spot.y p.spot.repetition e plain is
+figure_is (record_of.Path p) e plain is =
+    path_so p.layer p.datatype p.half_width (start_given p.extensions) (end_given p.extensions) p.points p.spot.x p.spot.y p.spot.repetition p.extensions e refl refl plain is
+figure_is _ e plain is = absurd plain
 
 -- ---- a judge that holds
 
@@ -156,5 +156,5 @@ figure_drawn j form ahead e all told is by step = record {
   says = λ told. record { element = e; drawn = by.drawn; form = by.kept; fit = by.fit };
   goes_on =
       goes_on_drawn (take ahead.length all) j form told e
-      (step (take ahead.length all) (bytes_so e ahead.record (take ahead.length all) (figure_is ahead.record e is.figure by.drawn) by.fit by.fits (is.shortest by.shortest false)));
+      (step (take ahead.length all) (bytes_so e ahead.record (take ahead.length all) (figure_is ahead.record e (is.plain by.shortest) by.drawn) by.fit by.fits (is.shortest by.shortest false)));
 }

@@ -1,5 +1,5 @@
--- A record that is at hand, and the element of one.
-use Rattle.std.specs.Prelude.{◌≡◌, ◌≤◌, ℕ, Bool, IsTrue, List, length, take, Some}
+-- The element of a record that is at hand.
+use Rattle.std.specs.Prelude.{◌≡◌, IsTrue, Some}
 use Rattle.oas_record.specs.declared.records.Record.TheVariants.{Rectangle}
 use Rattle.oas_elements.specs.declared.element.Element.{Element}
 use Rattle.oas_elements.specs.declared.profile.Profile.{Profile}
@@ -11,15 +11,8 @@ use Rattle.oas_peek.specs.declared.rectangles.PeekedRectangle.{PeekedRectangle}
 use Rattle.oas_peek.specs.declared.named.NamedOnce.{NamedOnce}
 use Rattle.oas_peek.specs.Named.{named_record}
 use Rattle.oas_peek.specs.declared.figures.PeekedFigure.{PeekedFigure}
-use Rattle.oas_writing.specs.Gathering.{inner_in}
-use Rattle.oas_judge.specs.declared.records.Found.{Found}
 use Rattle.oas_judge.specs.Candidates.{IsDrawable}
 use Rattle.oas_judge.specs.Own.{own_drawn}
-
--- this many of these bytes, from the first on, spell it
-pub record IsFound (in_end : Bool) (bytes : List ℕ) (found : Found) : Type 0 where
-  pub few : found.length ≤ length bytes
-  pub spelled : inner_in in_end found.record (take found.length bytes)
 
 -- it gives all fields of this element, in the shortest style
 pub record IsSpelledBy (ahead : PeekedRectangle) (e : Element) : Type 0 where

@@ -36,7 +36,8 @@
 //!   first, in code without calls; for the others the id says which way to try. An element that is spelled in the shortest
 //!   style has the canonical bytes, by a law of oas_form, and none is compared: a rectangle, a placement or a text that follows
 //!   an element of its kind (src/named.rt), or a polygon or a path that the profile keeps unchanged (src/figures.rt;
-//!   proofs/FigureSteps.antt: the steps between the vertices of a plain list are that list). Every other record is compared.
+//!   proofs/FigureSteps.antt: the steps between the vertices of a plain list are that list). Every other record is found by
+//!   `find_record` of oas_file, and compared.
 //! - src/parts.rt, specs/Parts.antt: the loop over the parts of a file, for any stores. A part that can't be judged at hand,
 //!   mostly since what is at hand ends within it, is read from a source that keeps its bytes; so are END and the head of a
 //!   file. A try at hand reads no byte after the record, and no record is tried twice. So however little a source has at hand,

@@ -1,38 +1,18 @@
 //! A record that is at hand, accepted and judged.
-ghost use Rattle.std.specs.Prelude.{◌≡◌, IfSome};
+ghost use Rattle.std.specs.Prelude.{◌≡◌};
 ghost use Rattle.oas_record.specs.declared.heads.Head.{Head as OneHead};
 ghost use Rattle.oas_judge.specs.Parts.{JudgesAtHand};
-ghost use Rattle.oas_judge.specs.Peeked.{IsFound};
 ghost use Rattle.oas_peek.specs.Peeked.{IsPeeked};
 
 use crate::judge::FileJudge;
-use oas_num::{Refusal, SliceSource, Source};
-use oas_peek::{PeekedRectangle, peek_figure, peek_full_rectangle, peek_named, peek_rectangle};
-use oas_record::{Head, Record};
-use oas_writing::{CellStore, Reader, take_record};
+use oas_num::{Refusal, Source};
+use oas_peek::{
+    KindAtHand, PeekedRectangle, kind_at_hand, peek_figure, peek_full_rectangle, peek_named,
+    peek_rectangle,
+};
+use oas_record::Head;
+use oas_writing::{CellStore, Reader, find_record};
 use std::alloc::Global;
-
-/// A record before END at the start of some bytes.
-#[derive(Drop)]
-struct Found {
-    record: Record,
-    /// How many of the bytes spell it.
-    length: usize,
-}
-
-/// The record before END that the first of these bytes spell. None if out of memory, or they spell none.
-fn find_record(alloc: Global, bytes: &[u8], flag_in_end: bool) -> Option<Found>
-    ensures { IfSome result (λ found. IsFound flag_in_end bytes.now found) }
-{
-    let mut source = SliceSource::new(bytes, bytes.len() as u64);
-    match take_record(alloc, &mut source, flag_in_end) {
-        Ok(Some(record)) => Some(Found {
-            record,
-            length: source.at() as usize,
-        }),
-        _ => None,
-    }
-}
 
 /// Gives the reader, and shows the judge, this rectangle, which is at hand, where the judge can decide at once. Returns false
 /// where it does nothing.
@@ -162,8 +142,6 @@ fn next_record<S: Source, C: CellStore>(
     requires { at ≡ (S.script source.old).given }
     ensures { JudgesAtHand C.store head.now (S.script source.old) reader.old judge.old result (S.script source.new) reader.new judge.new }
 {
-    // A try reads no byte after the record, and each record is tried once. So where it fails, since the bytes at hand end
-    // within the record or it is refused, that costs no more than reading the record's bytes once again.
     let ahead = source.ahead();
     let Some(found) = find_record(alloc, ahead, head.flag_in_end) else {
         return Ok(false);
@@ -211,11 +189,11 @@ fn next_of_kind<S: Source, C: CellStore>(
     requires { at ≡ (S.script source.old).given }
     ensures { JudgesAtHand C.store head.now (S.script source.old) reader.old judge.old result (S.script source.new) reader.new judge.new }
 {
-    match source.ahead() {
-        [20, ..] => next_rectangle(source, head, at, reader, judge),
-        [17 | 19, ..] => next_named(source, head, at, reader, judge),
-        [21 | 22, ..] => next_figure(alloc, source, head, at, reader, judge),
-        _ => Ok(false),
+    match kind_at_hand(source.ahead()) {
+        KindAtHand::Rectangle => next_rectangle(source, head, at, reader, judge),
+        KindAtHand::Named => next_named(source, head, at, reader, judge),
+        KindAtHand::Figure => next_figure(alloc, source, head, at, reader, judge),
+        KindAtHand::Other => Ok(false),
     }
 }
 

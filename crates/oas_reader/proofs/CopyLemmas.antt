@@ -131,11 +131,11 @@ module _ (m : ModalState) (kind : Kind) (repeated : Bool) (p : Places) where
       ∙ ap (λ (ds : List Drawn). first_stacks m kind repeated p n ++ ds) (append_nil (drawn_times p.copies (drawn_by m kind (place_offset m repeated p n))))
 
   -- and drawn
-  pub draws_next : {S : Type 0} (t : Store S) (n : ℕ) (d : Drawn) (before now after : S) → drawn_by m kind (place_offset m repeated p n) ≡ Some d
-      → Draws t before (first_stacks m kind repeated p n) now → Draws t now (replicate p.copies d) after → Draws t before (first_stacks m kind repeated p (n + 1)) after
-  draws_next t n d before now after e f g =
-      subst (λ (ds : List Drawn). Draws t before ds after) (sym (next_stack n ∙ ap (λ (o : Option Drawn). first_stacks m kind repeated p n ++ drawn_times p.copies o) e))
-      (draws_then t before now after (first_stacks m kind repeated p n) (replicate p.copies d) f g)
+  pub draws_next : {S : Type 0} (t : Store S) (n : ℕ) (before now after : S)
+      → Draws t before (first_stacks m kind repeated p n) now → Draws t now (drawn_times p.copies (drawn_by m kind (place_offset m repeated p n))) after → Draws t before (first_stacks m kind repeated p (n + 1)) after
+  draws_next t n before now after f g =
+      subst (λ (ds : List Drawn). Draws t before ds after) (sym (next_stack n))
+      (draws_then t before now after (first_stacks m kind repeated p n) (drawn_times p.copies (drawn_by m kind (place_offset m repeated p n))) f g)
 
   -- place by place each thing is drawn as often
   same_drawn : (number : ℕ) → AreHere number → SameDrawn (first_stacks m kind repeated p p.number) (first_copies m kind repeated number)
@@ -214,16 +214,16 @@ module _ (m : ModalState) (kind : Kind) (repeated : Bool) (p : Places) where
   one = weight_if (drawn_by m kind still)
 
   -- each copy weighs the same
-  one_weight : (n : ℕ) (d : Drawn) → drawn_by m kind (place_offset m repeated p n) ≡ Some d → weight_so_far d * p.copies ≡ p.copies * one
-  one_weight n d e =
+  one_weight : (n w : ℕ) → w ≡ weight_if (drawn_by m kind (place_offset m repeated p n)) → w * p.copies ≡ p.copies * one
+  one_weight n w e =
       let turned : p.copies * one ≡ one * p.copies = omega arith in
-      ap (λ (k : ℕ). k * p.copies) (ap weight_if (sym e) ∙ (drawn_alike m kind (place_offset m repeated p n) still).0) ∙ sym turned
+      ap (λ (k : ℕ). k * p.copies) (e ∙ (drawn_alike m kind (place_offset m repeated p n) still).0) ∙ sym turned
 
-  pub weight_next : (n : ℕ) (d : Drawn) (weight : ℕ) → drawn_by m kind (place_offset m repeated p n) ≡ Some d → weight ≡ n * (p.copies * one)
-      → weight + weight_so_far d * p.copies ≡ (n + 1) * (p.copies * one)
-  weight_next n d weight e is =
+  pub weight_next : (n w : ℕ) (weight : ℕ) → w ≡ weight_if (drawn_by m kind (place_offset m repeated p n)) → weight ≡ n * (p.copies * one)
+      → weight + w * p.copies ≡ (n + 1) * (p.copies * one)
+  weight_next n w weight e is =
       let more : (n + 1) * (p.copies * one) ≡ n * (p.copies * one) + p.copies * one = omega arith in
-      omega (arith, more, one_weight n d e, is)
+      omega (arith, more, one_weight n w e, is)
 
   -- and all together
   pub weight_all : (number : ℕ) → AreHere number → p.number * (p.copies * one) ≡ number * one
@@ -232,8 +232,8 @@ module _ (m : ModalState) (kind : Kind) (repeated : Bool) (p : Places) where
       joined ∙ ap (λ (k : ℕ). k * one) h.all
 
   -- no more than all do
-  pub weight_room : (number n : ℕ) (d : Drawn) (weight : ℕ) → AreHere number → drawn_by m kind (place_offset m repeated p n) ≡ Some d → weight ≡ n * (p.copies * one) → n < p.number
-      → number * one ≤ 2 ^ 30 → weight + weight_so_far d * p.copies < 2 ^ 64
-  weight_room number n d weight h e is lt light =
+  pub weight_room : (number n w : ℕ) (weight : ℕ) → AreHere number → w ≡ weight_if (drawn_by m kind (place_offset m repeated p n)) → weight ≡ n * (p.copies * one) → n < p.number
+      → number * one ≤ 2 ^ 30 → weight + w * p.copies < 2 ^ 64
+  weight_room number n w weight h e is lt light =
       let most : (n + 1) * (p.copies * one) ≤ p.number * (p.copies * one) = mul-le (n + 1) (p.copies * one) p.number (p.copies * one) (omega arith) (omega arith) in
-      omega (arith, weight_next n d weight e is, most, weight_all number h, light)
+      omega (arith, weight_next n w weight e is, most, weight_all number h, light)

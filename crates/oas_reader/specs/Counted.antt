@@ -8,6 +8,9 @@ use Rattle.oas_elements.specs.Bag.{put_more}
 use Rattle.oas_elements.specs.Laws.BagLaws.{total}
 use Rattle.oas_drawing.specs.declared.drawn.Drawn.{Drawn}
 use Rattle.oas_drawing.specs.declared.drawn.Drawn.TheVariants.{Named, PlacementBy, TextBy}
+use Rattle.oas_drawing.specs.declared.tally.Tally.{Tally}
+use Rattle.oas_drawing.specs.declared.tally.UsedNumber.{UsedNumber}
+use Rattle.oas_drawing.specs.declared.tally.UsedNumber.TheVariants.{Nothing, Cell, Text}
 use Rattle.oas_drawing.specs.Drawn.{weight_so_far}
 use Rattle.oas_reader.specs.References.{cell_by}
 use Rattle.oas_reader.specs.Weights.{AllUsed, capped, joined, names_weight, head_weight}
@@ -55,26 +58,26 @@ pub record IsTold (count : ℕ) (ps : List (ℕ × ℕ)) : Type 0 where
   pub few : total (λ _. 1) ps ≤ count
 
 -- n more placements
-abbrev pub placed_more : Drawn → ℕ → List (ℕ × ℕ) → List (ℕ × ℕ)
-placed_more (Named e) n ps = ps
-placed_more (PlacementBy number x y turns flip) n ps = put_more nat_cmp ps number n
-placed_more (TextBy number textlayer texttype x y) n ps = ps
+abbrev pub placed_more : UsedNumber → ℕ → List (ℕ × ℕ) → List (ℕ × ℕ)
+placed_more Nothing n ps = ps
+placed_more (Cell number) n ps = put_more nat_cmp ps number n
+placed_more (Text number) n ps = ps
 
 -- n more texts
-abbrev pub written_more : Drawn → ℕ → List (ℕ × ℕ) → List (ℕ × ℕ)
-written_more (Named e) n ps = ps
-written_more (PlacementBy number x y turns flip) n ps = ps
-written_more (TextBy number textlayer texttype x y) n ps = put_more nat_cmp ps number n
+abbrev pub written_more : UsedNumber → ℕ → List (ℕ × ℕ) → List (ℕ × ℕ)
+written_more Nothing n ps = ps
+written_more (Cell number) n ps = ps
+written_more (Text number) n ps = put_more nat_cmp ps number n
 
--- something is drawn n more times
-abbrev pub counted_more : Counted → Drawn → ℕ → Counted
-counted_more c d n =
+-- something that counts for this is drawn n more times
+abbrev pub counted_more : Counted → Tally → ℕ → Counted
+counted_more c t n =
     record {
       cell = c.cell;
       count = c.count + n;
-      weight = capped (c.weight + capped (weight_so_far d * n));
-      placed = placed_more d n c.placed;
-      written = written_more d n c.written;
+      weight = capped (c.weight + capped (t.weight * n));
+      placed = placed_more t.used n c.placed;
+      written = written_more t.used n c.written;
     }
 
 -- the weight of a cell with all names; None where a number has no name

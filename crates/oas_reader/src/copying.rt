@@ -3,26 +3,15 @@
 ghost use Rattle.std.specs.Prelude.{◌≡◌, ◌⊎◌, ◌*◌, ◌<◌, ◌≤◌, ◌^◌, ℕ, false, None, OnOk, IfOk, IfErr};
 ghost use Rattle.oas_num.specs.declared.refusals.Why.TheVariants.{Memory};
 ghost use Rattle.oas_shape.specs.Steps.{still};
-ghost use Rattle.oas_drawing.specs.Drawn.{weight_so_far};
 ghost use Rattle.oas_drawing.specs.Drawing.{drawn_by, number_if, offset_if};
 ghost use Rattle.oas_drawing.specs.Reasons.{weight_if, lacks_if, fault_of};
 ghost use Rattle.oas_reader.specs.Stores.{Draws};
 ghost use Rattle.oas_reader.specs.Copying.{first_copies};
 
 use crate::stores::CellStore;
-use oas_drawing::{Drawn, Kind, ModalVariables};
+use oas_drawing::{Kind, ModalVariables};
 use oas_num::Why;
 use std::alloc::Global;
-
-/// Its weight as long as numbers have no names.
-pub(crate) fn weight_so_far(drawn: &Drawn) -> u64
-    ensures { result ≡ weight_so_far drawn.now }
-{
-    match drawn {
-        Drawn::Named(element) => element.weight(),
-        _ => 1,
-    }
-}
 
 /// Draws the copies of an element record, those on one place at once, and returns their weight together.
 pub(crate) fn hold_copies<S: CellStore>(
@@ -44,12 +33,15 @@ pub(crate) fn hold_copies<S: CellStore>(
     let places = modal.places(repeated);
     let mut weight = 0;
     for j in 0..places.number {
-        let drawn = modal.copy(alloc, kind, repeated, j * places.stride)?;
-        weight += weight_so_far(&drawn) * places.copies;
-        match held.draw(drawn, places.copies) {
-            Ok(()) => {}
-            Err(_) => return Err(Why::Memory),
-        }
+        let one = held.draw_copy(
+            alloc,
+            modal,
+            kind,
+            repeated,
+            j * places.stride,
+            places.copies,
+        )?;
+        weight += one * places.copies;
     }
     Ok(weight)
 }

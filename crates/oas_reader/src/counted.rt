@@ -2,16 +2,16 @@
 
 ghost use Rattle.std.specs.Prelude.{◌≡◌, ◌+◌, ◌<◌, ◌^◌, OnOk, OnErr};
 ghost use Rattle.oas_drawing.specs.Named.{drawn_once};
-ghost use Rattle.oas_reader.specs.Counted.{counted_store, counted_weight, placed_more, written_more};
+ghost use Rattle.oas_drawing.specs.Tallies.{used_by};
+ghost use Rattle.oas_reader.specs.Counted.{counted_store, counted_weight, counted_more, placed_more, written_more};
 ghost use Rattle.oas_reader.specs.Laws.StoreLaws.{counted_in_any_order};
 
-use crate::copying::weight_so_far;
 use crate::meant::head_weight;
 use crate::names::NameTable;
 use crate::stores::{CellStore, Weighed};
 use crate::used::{UsedNumbers, cells_weight, strings_weight};
-use oas_drawing::{Drawn, DrawnOnce};
-use oas_num::{Label, Name};
+use oas_drawing::{Drawn, DrawnOnce, Kind, ModalVariables, Tally, UsedNumber};
+use oas_num::{Label, Name, Why};
 use oas_record::{CellRef, TextRef};
 use std::alloc::{AllocError, Global};
 use std::marker::Model;
@@ -43,20 +43,21 @@ impl Model for CountedCell {
 }
 
 impl CountedCell {
-    /// Counts something that is drawn this many times, and the uses of its number, if it has one.
+    /// Counts something this many times, and the uses of its number, if it has one. If out of memory nothing is counted.
     #[inline]
-    fn count_up(&mut self, drawn: &Drawn, times: u64) -> Result<(), AllocError>
+    fn count_times(&mut self, tally: Tally, times: u64) -> Result<(), AllocError>
         requires { self.old.count + times < 2 ^ 64 }
-        ensures ok { OnOk result (self.new ≡ record self.old
-            { count = self.old.count + times; placed = placed_more drawn.now times self.old.placed; written = written_more drawn.now times self.old.written }) }
+        ensures ok { OnOk result (self.new ≡ counted_more self.old tally times) }
         ensures err { OnErr result (self.new ≡ self.old) }
     {
-        match drawn {
-            Drawn::Named(_) => {}
-            Drawn::PlacementBy { number, .. } => self.placed.add(*number, times)?,
-            Drawn::TextBy { number, .. } => self.written.add(*number, times)?,
+        match tally.used {
+            UsedNumber::Nothing => {}
+            UsedNumber::Cell(number) => self.placed.add(number, times)?,
+            UsedNumber::Text(number) => self.written.add(number, times)?,
         }
         self.count += times;
+        let weight = tally.weight.saturating_mul(times);
+        self.weight = self.weight.saturating_add(weight);
         Ok(())
     }
 
@@ -65,7 +66,7 @@ impl CountedCell {
     fn count_once(&mut self, drawn: &DrawnOnce<'_>) -> Result<(), AllocError>
         requires { self.old.count + 1 < 2 ^ 64 }
         ensures ok { OnOk result (self.new ≡ record self.old
-            { count = self.old.count + 1; placed = placed_more (drawn_once drawn.now) 1 self.old.placed; written = written_more (drawn_once drawn.now) 1 self.old.written }) }
+            { count = self.old.count + 1; placed = placed_more (used_by (drawn_once drawn.now)) 1 self.old.placed; written = written_more (used_by (drawn_once drawn.now)) 1 self.old.written }) }
         ensures err { OnErr result (self.new ≡ self.old) }
     {
         match drawn {
@@ -117,10 +118,23 @@ impl CellStore for CountedCell {
     fn rest(&mut self) {}
 
     fn draw(&mut self, drawn: Drawn, times: u64) -> Result<(), AllocError> {
-        self.count_up(&drawn, times)?;
-        let weight = weight_so_far(&drawn).saturating_mul(times);
-        self.weight = self.weight.saturating_add(weight);
-        Ok(())
+        self.count_times(drawn.tally(), times)
+    }
+
+    fn draw_copy(
+        &mut self,
+        _alloc: Global,
+        modal: &ModalVariables,
+        kind: &Kind,
+        repeated: bool,
+        i: u64,
+        times: u64,
+    ) -> Result<u64, Why> {
+        let tally = modal.tally(kind, repeated, i)?;
+        match self.count_times(tally, times) {
+            Ok(()) => Ok(tally.weight),
+            Err(_) => Err(Why::Memory),
+        }
     }
 
     fn draw_once(&mut self, _alloc: Global, drawn: &DrawnOnce<'_>) -> Result<(), AllocError> {

@@ -18,8 +18,9 @@
 //!   cells, of any [`Weighed`] stores, exactly where END does (`end_reason`, specs/Meaning.antt), with the first reason that
 //!   it gives, or else fails out of memory.
 //! - A [`CountedCell`] is a store that keeps no element: only counts, weights, and how often each number is used
-//!   (specs/Counted.antt). The `finish_counting` of a reader with such cells accepts exactly the records that END doesn't
-//!   refuse, and refuses others with `end_refusal`, or fails out of memory.
+//!   (specs/Counted.antt). So it makes no copies of a record: it only looks where they are ([`CellStore::draw_copy`]). The
+//!   `finish_counting` of a reader with such cells accepts exactly the records that END doesn't refuse, and refuses others
+//!   with `end_refusal`, or fails out of memory.
 //! - [`laws`] says, from the definitions alone, that cells in which each thing is drawn as often are refused alike at END, and
 //!   mean the same.
 //! - A [`NameTable`] has the numbers that the name records of one class, CELLNAME or TEXTSTRING, give to strings. It
@@ -75,7 +76,8 @@
 //!   both whether a number lacks a name (it counts one) and the weight of the names (it counts the name's bytes):
 //!   `counted_known`, proofs/WeighLemmas.antt.
 //! - src/reader.rt: `Reader`, over any stores. parts.rt is what it keeps, taking.rt a function for each kind of record,
-//!   copying.rt the copies of an element record, place by place. `Reader::take_rectangle` is a faster way to the same clauses
+//!   copying.rt the copies of an element record, place by place: a store draws each (`CellStore::draw_copy`), and a counted
+//!   cell only asks what it counts for (`ModalVariables::tally`). `Reader::take_rectangle` is a faster way to the same clauses
 //!   for a rectangle without a repetition: its record isn't moved, and its one copy is drawn at once (`accept_rectangle`,
 //!   taking.rt; proofs/OnceLemmas.antt, which uses what JudgedDraws.antt says about one copy). So is `Reader::take_named` for
 //!   a placement or a text (`accept_named`, src/named.rt); its store copies the name only where it keeps it

@@ -1,16 +1,21 @@
 //! Where what the records of a CELL draw is collected.
 
-ghost use Rattle.std.specs.Prelude.{◌≡◌, ◌+◌, ◌<◌, ◌^◌, List, [], ◌∷◌, replicate, OnOk, OnErr};
+ghost use Rattle.std.specs.Prelude.{◌≡◌, ◌⊎◌, ◌+◌, ◌<◌, ◌^◌, false, None, Some, List, [], ◌∷◌, replicate, OnOk, OnErr, IfOk, IfErr};
+ghost use Rattle.oas_num.specs.declared.refusals.Why.TheVariants.{Memory};
+ghost use Rattle.oas_shape.specs.Steps.{still};
 ghost use Rattle.oas_drawing.specs.declared.drawn.Drawn.{Drawn};
 ghost use Rattle.oas_drawing.specs.Named.{drawn_once};
+ghost use Rattle.oas_drawing.specs.Drawing.{drawn_by, number_if, offset_if};
+ghost use Rattle.oas_drawing.specs.Reasons.{weight_if, lacks_if, fault_of};
 ghost use Rattle.oas_reader.specs.Alike.{SameDrawn};
+ghost use Rattle.oas_reader.specs.Copying.{drawn_times};
 ghost use Rattle.oas_reader.specs.Finish.{IsFit};
 ghost use Rattle.oas_reader.specs.Stores.{Store, Draws, IsBegun};
 ghost use Rattle.oas_reader.specs.Weights.{known_weight};
 
 use crate::names::NameTable;
-use oas_drawing::{Drawn, DrawnOnce};
-use oas_num::{Label, Name};
+use oas_drawing::{Drawn, DrawnOnce, Kind, ModalVariables};
+use oas_num::{Label, Name, Why};
 use oas_record::CellRef;
 use std::alloc::{AllocError, Global};
 
@@ -45,6 +50,37 @@ pub trait CellStore: Sized + Drop {
     {
         let drawn = drawn.try_drawn(alloc)?;
         self.draw(drawn, 1)
+    }
+
+    /// Draws copy `i` of an element record, counted from 0, by the modal variables after it, this many times. It returns the
+    /// weight of one, as long as numbers have no names. It is refused as [`ModalVariables::copy`] refuses it, or fails with
+    /// `Memory`; then nothing is drawn.
+    fn draw_copy(
+        &mut self,
+        alloc: Global,
+        modal: &ModalVariables,
+        kind: &Kind,
+        repeated: bool,
+        i: u64,
+        times: u64,
+    ) -> Result<u64, Why>
+        requires some { 0 < times }
+        requires below { i < number_if repeated modal.now.repetition }
+        requires small { i < 2 ^ 32 }
+        requires points { lacks_if (drawn_by modal.now kind.now still) ≡ false }
+        requires room { store.count self.old + times < 2 ^ 64 }
+        ensures fits { OnOk result (fault_of (drawn_by modal.now kind.now (offset_if repeated modal.now.repetition i)) ≡ None) }
+        ensures weight { IfOk result (λ weight. weight ≡ weight_if (drawn_by modal.now kind.now (offset_if repeated modal.now.repetition i))) }
+        ensures ok { OnOk result (Draws store self.old (drawn_times times (drawn_by modal.now kind.now (offset_if repeated modal.now.repetition i))) self.new) }
+        ensures err { IfErr result (λ why. (why ≡ Memory) ⊎ (fault_of (drawn_by modal.now kind.now (offset_if repeated modal.now.repetition i)) ≡ Some why)) }
+        ensures none { OnErr result (Draws store self.old [] self.new) }
+    {
+        let drawn = modal.copy(alloc, kind, repeated, i)?;
+        let weight = drawn.tally().weight;
+        match self.draw(drawn, times) {
+            Ok(()) => Ok(weight),
+            Err(_) => Err(Why::Memory),
+        }
     }
 
     /// Gives back memory that only drawing needs, once all is drawn. What it may represent is unchanged.

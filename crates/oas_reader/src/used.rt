@@ -1,13 +1,13 @@
 //! How often the numbers of names are used, and the weight of their names together.
 
-ghost use Rattle.std.specs.Prelude.{◌≡◌, ◌+◌, ◌<◌, ◌^◌, [], unwrap_or, OnOk, OnErr};
-ghost use Rattle.std.specs.BTreeMap.{get, insert_entry, IsOrdered, IsUnchanged};
+ghost use Rattle.std.specs.Prelude.{◌≡◌, ◌+◌, ◌<◌, ◌^◌, [], OnOk, OnErr};
 ghost use Rattle.std.specs.Ordering.{nat_cmp};
 ghost use Rattle.oas_elements.specs.Bag.{put_more};
 ghost use Rattle.oas_elements.specs.Laws.BagLaws.{total};
 ghost use Rattle.oas_reader.specs.Weights.{names_weight};
 
 use crate::names::NameTable;
+use oas_elements::count_up;
 use oas_num::{Label, Name};
 use std::alloc::{AllocError, Global};
 use std::collections::BTreeMap;
@@ -51,21 +51,6 @@ impl UsedNumbers {
         count_up(&mut self.times, number, times)?;
         Ok(())
     }
-}
-
-/// Adds to the count of a number, in one search for its place, or changes nothing.
-fn count_up(used: &mut BTreeMap<u64, u64>, number: u64, times: u64) -> Result<(), AllocError>
-    requires { unwrap_or (get nat_cmp used.old number) 0 + times < 2 ^ 64 }
-    ensures entries { OnOk result (used.new.entries ≡ insert_entry nat_cmp used.old.entries number (unwrap_or (get nat_cmp used.old number) 0 + times)) }
-    ensures ordered { OnOk result (IsOrdered nat_cmp used.new) }
-    ensures err { OnErr result (IsUnchanged used.old used.new) }
-{
-    let entry = match used.entry(number) {
-        Ok(entry) => entry,
-        Err(_) => return Err(AllocError),
-    };
-    *entry.or_insert(0) += times;
-    Ok(())
 }
 
 /// The bytes of the names of cells that are placed by number.

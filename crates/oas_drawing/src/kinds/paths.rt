@@ -11,14 +11,19 @@ ghost use Rattle.oas_drawing.specs.Modal.{stepped};
 ghost use Rattle.oas_drawing.specs.Drawn.{weight_so_far};
 ghost use Rattle.oas_drawing.specs.Drawing.{path_at, point_from};
 ghost use Rattle.oas_drawing.specs.Reasons.{fault_of, MayRunOut};
+ghost use Rattle.oas_drawing.specs.Tallies.{IsTallied};
 
 use crate::drawn::Drawn;
-use crate::modal::drawing::{coordinate, points_by, points_weight};
+use crate::modal::drawing::{coordinate, points_by, points_fit, points_weight};
 use crate::modal::{ModalVariables, set, take_given};
+use crate::tally::{Tally, UsedNumber};
 use oas_elements::Element;
 use oas_num::Why;
 use oas_record::{Extension, Extensions, Path};
 use std::alloc::Global;
+
+/// The largest half-width (own rule).
+const WIDEST: u64 = 1152921504606846976;
 
 /// An extension as a number, by the half-width of its path. The modal one sets nothing.
 fn extension_number(half_width: Option<u64>, extension: Extension) -> Option<i128>
@@ -105,5 +110,33 @@ impl ModalVariables {
             end,
             points,
         }))
+    }
+
+    /// What a path, moved by an offset, counts for. Its vertices aren't kept.
+    pub(crate) fn path_tally(&self, by: (i128, i128)) -> Result<Tally, Why>
+        ensures ok { IfOk result (λ t. IsTallied (path_at self.now.layer self.now.datatype self.now.half_width self.now.start self.now.end self.now.path_points (point_from self.now.geometry (step by.0 by.1))) t) }
+        ensures err { IfErr result (λ why. fault_of (path_at self.now.layer self.now.datatype self.now.half_width self.now.start self.now.end self.now.path_points (point_from self.now.geometry (step by.0 by.1))) ≡ Some why) }
+    {
+        let (Some(_), Some(_), Some(half_width)) = (self.layer, self.datatype, self.half_width)
+        else {
+            return Err(Why::ModalUndefined);
+        };
+        let (Some(start), Some(end), Some(points)) = (self.start, self.end, &self.path_points)
+        else {
+            return Err(Why::ModalUndefined);
+        };
+        let (Some(_), Some(_)) = (coordinate(start), coordinate(end)) else {
+            return Err(Why::CoordinateRange);
+        };
+        if half_width > WIDEST {
+            return Err(Why::CoordinateRange);
+        }
+        if !points_fit(points, self.geometry, by) {
+            return Err(Why::CoordinateRange);
+        }
+        Ok(Tally {
+            weight: points_weight(points) as u64,
+            used: UsedNumber::Nothing,
+        })
     }
 }

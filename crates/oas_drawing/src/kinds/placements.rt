@@ -11,10 +11,12 @@ ghost use Rattle.oas_drawing.specs.Modal.{stepped};
 ghost use Rattle.oas_drawing.specs.Drawn.{weight_so_far};
 ghost use Rattle.oas_drawing.specs.Drawing.{placement_at, point_from};
 ghost use Rattle.oas_drawing.specs.Reasons.{fault_of, MayRunOut};
+ghost use Rattle.oas_drawing.specs.Tallies.{IsTallied};
 
 use crate::drawn::Drawn;
 use crate::modal::drawing::point_by;
 use crate::modal::{ModalVariables, take_given, take_repetition};
+use crate::tally::{Tally, UsedNumber};
 use oas_elements::{Element, Turns};
 use oas_num::Why;
 use oas_record::{CellRef, Placement};
@@ -77,6 +79,27 @@ impl ModalVariables {
                 })),
                 Err(_) => Err(Why::Memory),
             },
+        }
+    }
+
+    /// What a placement, moved by an offset, counts for. Its name isn't copied.
+    pub(crate) fn placement_tally(&self, by: (i128, i128)) -> Result<Tally, Why>
+        ensures ok { (turns : Turns) (flip : Bool) → IfOk result (λ t. IsTallied (placement_at self.now.cell turns flip (point_from self.now.placement (step by.0 by.1))) t) }
+        ensures err { (turns : Turns) (flip : Bool) → IfErr result (λ why. fault_of (placement_at self.now.cell turns flip (point_from self.now.placement (step by.0 by.1))) ≡ Some why) }
+    {
+        let Some(cell) = &self.cell else {
+            return Err(Why::ModalUndefined);
+        };
+        point_by(self.placement, by)?;
+        match cell {
+            CellRef::Number(number) => Ok(Tally {
+                weight: 1,
+                used: UsedNumber::Cell(*number),
+            }),
+            CellRef::Name(name) => Ok(Tally {
+                weight: 1 + name.as_bytes().len() as u64,
+                used: UsedNumber::Nothing,
+            }),
         }
     }
 }

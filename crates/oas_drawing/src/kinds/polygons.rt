@@ -10,10 +10,12 @@ ghost use Rattle.oas_drawing.specs.Modal.{stepped};
 ghost use Rattle.oas_drawing.specs.Drawn.{weight_so_far};
 ghost use Rattle.oas_drawing.specs.Drawing.{polygon_at, point_from};
 ghost use Rattle.oas_drawing.specs.Reasons.{fault_of, MayRunOut};
+ghost use Rattle.oas_drawing.specs.Tallies.{IsTallied};
 
 use crate::drawn::Drawn;
-use crate::modal::drawing::{points_by, points_weight};
+use crate::modal::drawing::{points_by, points_fit, points_weight};
 use crate::modal::{ModalVariables, take_given};
+use crate::tally::{Tally, UsedNumber};
 use oas_elements::Element;
 use oas_num::Why;
 use oas_record::Polygon;
@@ -58,5 +60,23 @@ impl ModalVariables {
             datatype,
             points,
         }))
+    }
+
+    /// What a polygon, moved by an offset, counts for. Its vertices aren't kept.
+    pub(crate) fn polygon_tally(&self, by: (i128, i128)) -> Result<Tally, Why>
+        ensures ok { IfOk result (λ t. IsTallied (polygon_at self.now.layer self.now.datatype self.now.polygon_points (point_from self.now.geometry (step by.0 by.1))) t) }
+        ensures err { IfErr result (λ why. fault_of (polygon_at self.now.layer self.now.datatype self.now.polygon_points (point_from self.now.geometry (step by.0 by.1))) ≡ Some why) }
+    {
+        let (Some(_), Some(_), Some(points)) = (self.layer, self.datatype, &self.polygon_points)
+        else {
+            return Err(Why::ModalUndefined);
+        };
+        if !points_fit(points, self.geometry, by) {
+            return Err(Why::CoordinateRange);
+        }
+        Ok(Tally {
+            weight: points_weight(points) as u64,
+            used: UsedNumber::Nothing,
+        })
     }
 }

@@ -10,10 +10,12 @@ ghost use Rattle.oas_drawing.specs.Modal.{stepped};
 ghost use Rattle.oas_drawing.specs.Drawn.{weight_so_far};
 ghost use Rattle.oas_drawing.specs.Drawing.{text_at, point_from};
 ghost use Rattle.oas_drawing.specs.Reasons.{fault_of, MayRunOut};
+ghost use Rattle.oas_drawing.specs.Tallies.{IsTallied};
 
 use crate::drawn::Drawn;
 use crate::modal::drawing::point_by;
 use crate::modal::{ModalVariables, set, take_given, take_repetition};
+use crate::tally::{Tally, UsedNumber};
 use oas_elements::Element;
 use oas_num::Why;
 use oas_record::{Text, TextRef};
@@ -78,6 +80,27 @@ impl ModalVariables {
                 })),
                 Err(_) => Err(Why::Memory),
             },
+        }
+    }
+
+    /// What a text, moved by an offset, counts for. Its string isn't copied.
+    pub(crate) fn text_tally(&self, by: (i128, i128)) -> Result<Tally, Why>
+        ensures ok { IfOk result (λ t. IsTallied (text_at self.now.string self.now.textlayer self.now.texttype (point_from self.now.text (step by.0 by.1))) t) }
+        ensures err { IfErr result (λ why. fault_of (text_at self.now.string self.now.textlayer self.now.texttype (point_from self.now.text (step by.0 by.1))) ≡ Some why) }
+    {
+        let (Some(string), Some(_), Some(_)) = (&self.string, self.textlayer, self.texttype) else {
+            return Err(Why::ModalUndefined);
+        };
+        point_by(self.text, by)?;
+        match string {
+            TextRef::Number(number) => Ok(Tally {
+                weight: 1,
+                used: UsedNumber::Text(*number),
+            }),
+            TextRef::Label(label) => Ok(Tally {
+                weight: 1 + label.as_bytes().len() as u64,
+                used: UsedNumber::Nothing,
+            }),
         }
     }
 }

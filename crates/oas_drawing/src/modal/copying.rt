@@ -5,11 +5,13 @@ ghost use Rattle.oas_num.specs.Deltas.{step};
 ghost use Rattle.oas_drawing.specs.Drawn.{drawn_fits};
 ghost use Rattle.oas_drawing.specs.Drawing.{number_if, offset_if, places_if, drawn_by};
 ghost use Rattle.oas_drawing.specs.Reasons.{fault_of, MayRunOut};
+ghost use Rattle.oas_drawing.specs.Tallies.{IsTallied};
 
 use super::ModalVariables;
 use super::drawing::coordinate;
 use crate::drawn::Drawn;
 use crate::kinds::Kind;
+use crate::tally::Tally;
 use oas_num::Why;
 use oas_shape::Places;
 use std::alloc::Global;
@@ -23,6 +25,18 @@ fn fits(drawn: &Drawn) -> bool
         Drawn::PlacementBy { x, y, .. } | Drawn::TextBy { x, y, .. } => {
             coordinate(i128::from(*x)).is_some() && coordinate(i128::from(*y)).is_some()
         }
+    }
+}
+
+/// What an element that is drawn counts for, where it is within the grid. It is refused with `CoordinateRange`.
+pub(crate) fn tally_within(drawn: &Drawn) -> Result<Tally, Why>
+    ensures ok { IfOk result (λ t. IsTallied (Some drawn.now) t) }
+    ensures err { IfErr result (λ why. fault_of (Some drawn.now) ≡ Some why) }
+{
+    if fits(drawn) {
+        Ok(drawn.tally())
+    } else {
+        Err(Why::CoordinateRange)
     }
 }
 
@@ -77,5 +91,16 @@ impl ModalVariables {
         } else {
             Err(Why::CoordinateRange)
         }
+    }
+
+    /// What copy `i` of an element record, counted from 0, counts for. It isn't drawn: it is refused as
+    /// [`ModalVariables::copy`] refuses it, and needs no memory.
+    pub fn tally(&self, kind: &Kind, repeated: bool, i: u64) -> Result<Tally, Why>
+        requires below { i < number_if repeated self.now.repetition }
+        requires small { i < 2 ^ 32 }
+        ensures ok { IfOk result (λ t. IsTallied (drawn_by self.now kind.now (offset_if repeated self.now.repetition i)) t) }
+        ensures err { IfErr result (λ why. fault_of (drawn_by self.now kind.now (offset_if repeated self.now.repetition i)) ≡ Some why) }
+    {
+        self.tally_by(kind, self.offset(repeated, i))
     }
 }

@@ -1,5 +1,5 @@
 //! Coordinates, points and vertices within the grid, for the files of kinds.
-ghost use Rattle.std.specs.Prelude.{◌≡◌, ◌≤◌, ◌+◌, ◌^◌, length, ◌+ℤ◌, ◌⊎◌, true, false, None, Some, IfOk, IfErr, SomeIff};
+ghost use Rattle.std.specs.Prelude.{◌≡◌, ◌<◌, ◌+◌, ◌^◌, length, ◌+ℤ◌, ◌⊎◌, true, false, None, Some, IfOk, IfErr, SomeIff};
 ghost use Rattle.oas_num.specs.declared.refusals.Why.TheVariants.{Memory, CoordinateRange};
 ghost use Rattle.oas_num.specs.Deltas.{step};
 ghost use Rattle.std.specs.List.{list_all};
@@ -66,10 +66,21 @@ pub(crate) fn points_by(
     }
 }
 
+/// Whether the vertices of a point list at a position that is moved this far are within the grid.
+#[tactic(auto, using(crate::proofs::Grids::in_range, crate::proofs::Grids::off_vertices))]
+pub(crate) fn points_fit(points: &PointList, at: Position, by: (i128, i128)) -> bool
+    ensures { list_all is_grid_point (vertices_of points.now (point_from at (step by.0 by.1))) ≡ result }
+{
+    match point_by(at, by) {
+        Ok(at) => points.is_in_range(at),
+        Err(_) => false,
+    }
+}
+
 /// The weight of an element with these points.
 pub(crate) fn points_weight(points: &PointList) -> u128
     ensures weight { (at : OnePoint) → 1 + length (vertices_of points.now at) ≡ result }
-    ensures near { result ≤ 2 ^ 64 }
+    ensures near { result < 2 ^ 64 }
 {
     1 + points.len() as u128
 }

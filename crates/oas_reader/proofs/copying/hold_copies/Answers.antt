@@ -6,54 +6,45 @@ use Rattle.oas_drawing.specs.Reasons.{weight_if, fault_of}
 use Rattle.oas_reader.specs.Stores.{Draws}
 use Rattle.oas_reader.specs.Copying.{place_offset, first_stacks}
 use Rattle.oas_reader.proofs.CopyLemmas.{here, draws_next, draws_all, room_next, fit_next, fit_all, fault_at, weight_next, weight_all, weight_room}
-use Rattle.oas_reader.proofs.DrawLemmas.{copy_fit}
 use Rattle.oas_reader.proofs.copying.hold_copies.Goals as goal
 
-pub copy-requires-clause-below : goal.copy-requires-clause-below
-copy-requires-clause-below g c = (here c.args.modal.now c.args.repeated c.places-places.result c.places-places.ensures).within c.loop-j.j c.loop-j-test.true
+pub draw_copy-requires-clause-below : goal.draw_copy-requires-clause-below
+draw_copy-requires-clause-below g c = (here c.args.modal.now c.args.repeated c.places-places.result c.places-places.ensures).within c.loop-j.j c.loop-j-test.true
 
-pub copy-requires-clause-small : goal.copy-requires-clause-small
-copy-requires-clause-small g c = omega (arith, (here c.args.modal.now c.args.repeated c.places-places.result c.places-places.ensures).within c.loop-j.j c.loop-j-test.true, c.requires.small)
+pub draw_copy-requires-clause-small : goal.draw_copy-requires-clause-small
+draw_copy-requires-clause-small g c = omega (arith, (here c.args.modal.now c.args.repeated c.places-places.result c.places-places.ensures).within c.loop-j.j c.loop-j-test.true, c.requires.small)
 
-pub returns-in_err-drawn-clause-err : goal.returns-in_err-drawn-clause-err
-returns-in_err-drawn-clause-err g c =
+pub returns-in_err-one-clause-err : goal.returns-in_err-one-clause-err
+returns-in_err-one-clause-err g c =
     let p = err_from_is_err_and c.from_residual.result c.from_residual.ensures.1 in
-    rw (p.1, p.2) (fault_at c.args.modal.now c.args.kind.now c.args.repeated c.places-places.result (number_if c.args.repeated c.args.modal.now.repetition) c.loop-j.j _ (here c.args.modal.now c.args.repeated c.places-places.result c.places-places.ensures) c.loop-j-test.true c.in_err-drawn.ensures.err)
+    rw (p.1, p.2) (fault_at c.args.modal.now c.args.kind.now c.args.repeated c.places-places.result (number_if c.args.repeated c.args.modal.now.repetition) c.loop-j.j _ (here c.args.modal.now c.args.repeated c.places-places.result c.places-places.ensures) c.loop-j-test.true c.in_err-one.ensures.err)
 
 pub overflow_mul-weight : goal.overflow_mul-weight
 overflow_mul-weight g c =
     omega (
       arith,
-      ap (λ (n : ℕ). n * c.places-places.result.copies) c.weight_so_far.ensures,
-      weight_room c.args.modal.now c.args.kind.now c.args.repeated c.places-places.result (number_if c.args.repeated c.args.modal.now.repetition) c.loop-j.j c.in_ok-drawn.drawn c.loop-j.weight (here c.args.modal.now c.args.repeated c.places-places.result c.places-places.ensures) c.in_ok-drawn.ensures.ok c.loop-j.invariant.weight c.loop-j-test.true c.requires.light,
+      weight_room c.args.modal.now c.args.kind.now c.args.repeated c.places-places.result (number_if c.args.repeated c.args.modal.now.repetition) c.loop-j.j c.in_ok-one.one c.loop-j.weight (here c.args.modal.now c.args.repeated c.places-places.result c.places-places.ensures) c.in_ok-one.ensures.weight c.loop-j.invariant.weight c.loop-j-test.true c.requires.light,
     )
 
 pub overflow_add-weight : goal.overflow_add-weight
 overflow_add-weight g c =
     omega (
       arith,
-      ap (λ (n : ℕ). n * c.places-places.result.copies) c.weight_so_far.ensures,
-      weight_room c.args.modal.now c.args.kind.now c.args.repeated c.places-places.result (number_if c.args.repeated c.args.modal.now.repetition) c.loop-j.j c.in_ok-drawn.drawn c.loop-j.weight (here c.args.modal.now c.args.repeated c.places-places.result c.places-places.ensures) c.in_ok-drawn.ensures.ok c.loop-j.invariant.weight c.loop-j-test.true c.requires.light,
+      weight_room c.args.modal.now c.args.kind.now c.args.repeated c.places-places.result (number_if c.args.repeated c.args.modal.now.repetition) c.loop-j.j c.in_ok-one.one c.loop-j.weight (here c.args.modal.now c.args.repeated c.places-places.result c.places-places.ensures) c.in_ok-one.ensures.weight c.loop-j.invariant.weight c.loop-j-test.true c.requires.light,
     )
 
-pub draw-requires-clause-fit : goal.draw-requires-clause-fit
-draw-requires-clause-fit g c =
-    copy_fit c.args.modal.now c.args.kind.now c.args.repeated (c.loop-j.j * c.places-places.result.stride) c.in_ok-drawn.drawn c.in_ok-drawn.ensures.ok c.in_ok-drawn.ensures.fits c.requires.points
-
-pub draw-requires-clause-room : goal.draw-requires-clause-room
-draw-requires-clause-room g c =
+pub draw_copy-requires-clause-room : goal.draw_copy-requires-clause-room
+draw_copy-requires-clause-room g c =
     room_next c.args.modal.now c.args.kind.now c.args.repeated c.places-places.result g.S.CellStore.store (number_if c.args.repeated c.args.modal.now.repetition) c.loop-j.j c.args.held.now c.loop-j.held (here c.args.modal.now c.args.repeated c.places-places.result c.places-places.ensures) c.loop-j-test.true c.loop-j.invariant.held c.requires.room c.requires.small
 
-pub draw-requires-clause-some : goal.draw-requires-clause-some
-draw-requires-clause-some g c = (here c.args.modal.now c.args.repeated c.places-places.result c.places-places.ensures).some
+pub draw_copy-requires-clause-some : goal.draw_copy-requires-clause-some
+draw_copy-requires-clause-some g c = (here c.args.modal.now c.args.repeated c.places-places.result c.places-places.ensures).some
 
 pub loop-j-preserved : goal.loop-j-preserved
 loop-j-preserved g c = record {
-  weight = ap (λ (n : ℕ). c.loop-j.weight + n * c.places-places.result.copies) c.weight_so_far.ensures
-      ∙ weight_next c.args.modal.now c.args.kind.now c.args.repeated c.places-places.result c.loop-j.j c.in_ok-drawn.drawn c.loop-j.weight c.in_ok-drawn.ensures.ok c.loop-j.invariant.weight;
-  held = draws_next c.args.modal.now c.args.kind.now c.args.repeated c.places-places.result g.S.CellStore.store c.loop-j.j c.in_ok-drawn.drawn c.args.held.now c.loop-j.held _ c.in_ok-drawn.ensures.ok
-      c.loop-j.invariant.held c.in-Ok.ensures.ok;
-  fit = fit_next c.args.modal.now c.args.kind.now c.args.repeated c.places-places.result c.loop-j.j c.loop-j.invariant.fit c.in_ok-drawn.ensures.fits;
+  weight = weight_next c.args.modal.now c.args.kind.now c.args.repeated c.places-places.result c.loop-j.j c.in_ok-one.one c.loop-j.weight c.in_ok-one.ensures.weight c.loop-j.invariant.weight;
+  held = draws_next c.args.modal.now c.args.kind.now c.args.repeated c.places-places.result g.S.CellStore.store c.loop-j.j c.args.held.now c.loop-j.held _ c.loop-j.invariant.held c.in_ok-one.ensures.ok;
+  fit = fit_next c.args.modal.now c.args.kind.now c.args.repeated c.places-places.result c.loop-j.j c.loop-j.invariant.fit c.in_ok-one.ensures.fits;
 }
 
 pub returns-clause-weight : goal.returns-clause-weight

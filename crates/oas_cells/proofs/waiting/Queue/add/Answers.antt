@@ -27,7 +27,7 @@ invariant_of-self-in_default c =
 
 pub returns-in_default-clause-ok : goal.returns-in_default-clause-ok
 returns-in_default-clause-ok c =
-    others_more c.self.inside.chunks c.self.inside.others.entries c.args.self.now c.self.view_is c.count_up.new.held.entries c.args.drawn c.args.times
+    others_more c.self.inside.chunks c.self.inside.others.entries c.args.self.now c.self.view_is c.count_up.new.counts.entries c.args.drawn c.args.times
     (with_drawn-inserted c.self.inside.others.entries _ c.args.drawn c.args.times c.self.invariant c.in_ok-count_up.ensures.entries)
 
 pub returns-clause-ok : goal.returns-clause-ok

@@ -11,5 +11,5 @@ count_up-requires c = omega (arith, used_few c.self.inside.times.entries c.args.
 
 pub returns-clause-ok : goal.returns-clause-ok
 returns-clause-ok c =
-    put_inserted c.self.inside.times.entries c.args.self.now c.count_up.new.used.entries c.args.number c.args.times _ c.self.view_is c.self.invariant
+    put_inserted c.self.inside.times.entries c.args.self.now c.count_up.new.counts.entries c.args.number c.args.times _ c.self.view_is c.self.invariant
     (ap (λ (ps : List (ℕ × ℕ)). unwrap_or (lookup (is_at (nat_cmp c.args.number)) ps) 0) c.self.view_is) c.in_ok-count_up.ensures.entries

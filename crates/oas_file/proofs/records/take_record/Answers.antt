@@ -1,5 +1,5 @@
 use Rattle.std.proofs.Common.{rules}
-use Rattle.oas_file.proofs.reading.take_record.Goals as goal
+use Rattle.oas_file.proofs.records.take_record.Goals as goal
 
 pub returns-in-End : goal.returns-in-End
 returns-in-End g c = search rules

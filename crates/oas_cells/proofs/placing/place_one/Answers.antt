@@ -1,5 +1,5 @@
 use Rattle.oas_cells.proofs.PlaceLemmas.{keys_added}
-use Rattle.oas_cells.proofs.placing.add_meant.Goals as goal
+use Rattle.oas_cells.proofs.placing.place_one.Goals as goal
 
 pub returns-in-Named-clause-keys : goal.returns-in-Named-clause-keys
 returns-in-Named-clause-keys c =
