@@ -1,6 +1,6 @@
 -- The loose keys, put into order and made into runs.
-use Rattle.std.proofs.Common.{◌≡◌, ℕ, suc, ◌==◌, false, ◌+◌, ◌*◌, ◌<◌, ◌^◌, true, List, [], ◌∷◌, ◌++◌, cond, length, get_or, drop, drop-cons, refl, sym, ◌∙◌, ap, arith, subst}
-use Rattle.std.specs.Cmp.{IsTotalOrder, tied_itself, unsigned_Decides}
+use Rattle.std.proofs.Common.{◌≡◌, ℕ, suc, ◌+◌, ◌*◌, ◌<◌, ◌≤◌, ◌^◌, true, List, [], ◌∷◌, ◌++◌, cond, length, get_or, drop, drop-cons, refl, sym, ◌∙◌, ap, arith, subst}
+use Rattle.std.specs.Cmp.{IsTotalOrder, tied_itself}
 use Rattle.std.specs.Ordering.{is_eq}
 use Rattle.std.specs.List.{sum_by}
 use Rattle.std.specs.List.Sorted.{IsPermutation}
@@ -9,59 +9,58 @@ use Rattle.std.proofs.lemmas.List.{map-append}
 use Rattle.std.proofs.lemmas.List.Sorted.{sum_by-IsPermutation}
 use Rattle.std.proofs.lemmas.List.Sums.{sum_by-cons}
 use Rattle.oas_run_store.specs.declared.loose.Loose.{Loose}
-use Rattle.oas_runs.specs.Entries.{Entry}
-use Rattle.oas_run_store.specs.Loose.{entry_of, entries_of}
+use Rattle.oas_runs.specs.Entries.{Entry, entries, IsBlock}
+use Rattle.oas_run_store.specs.Loose.{first_of, entry_of, entries_of, Begins}
 use Rattle.oas_runs.specs.Runs.{total, copies, Positive, SameTotals}
 use Rattle.oas_runs.specs.Laws.RunLaws.{total-append}
 use Rattle.oas_runs.specs.Blocks.{joined}
-use Rattle.oas_run_store.specs.Parts.{waiting, contents, AreParts, AreRuns, CountsFit, IsBelow}
+use Rattle.oas_run_store.specs.Parts.{contents, AreParts, AreRuns, CountsFit, IsBelow}
 use Rattle.oas_run_store.proofs.PartLemmas.{total_contents, IsRun-empty}
 use Rattle.oas_run_store.proofs.AddLemmas.{More}
 
--- ---- put to the others
+-- ---- where entries begin
 
 -- one more was put
-pub entry_put : (all alls : List Loose) (a : Loose) → alls ≡ all ++ a ∷ [] → SameTotals (entries_of alls) (entry_of a ∷ entries_of all)
-entry_put all alls a e g =
-    omega (arith, ap (total g) (ap entries_of e ∙ map-append entry_of all (a ∷ [])), total-append g (entries_of all) (entry_of a ∷ []))
+pub entry_put : (bytes : List ℕ) (all alls : List Loose) (a : Loose) (p : Entry) → alls ≡ all ++ a ∷ [] → entry_of bytes a ≡ p
+    → SameTotals (entries_of bytes alls) (p ∷ entries_of bytes all)
+entry_put bytes all alls a p e f g =
+    omega (
+      arith,
+      ap (total g) (ap (entries_of bytes) e ∙ map-append (entry_of bytes) all (a ∷ [])),
+      total-append g (entries_of bytes all) (entry_of bytes a ∷ []),
+      ap (λ (q : Entry). total g (q ∷ [])) f,
+    )
 
-total-waiting : (g : List ℕ → ℕ) (k : List ℕ) (n : ℕ) → total g (waiting k n) ≡ n * g k
-total-waiting g k n = elim (n == 0) as (λ b. n == 0 ≡ b → total g (cond b [] ((k, n) ∷ [])) ≡ n * g k) [
-  | true ↦ λ e. let none : n * g k ≡ 0 * g k = ap (λ (m : ℕ). m * g k) ((unsigned_Decides n 0).0 e) in omega (arith, none)
-  | false ↦ λ e. omega arith
-] refl
+-- one of them
+pub one_begins : (bytes : List ℕ) (a : Loose) (at : ℕ) → a.at ≡ at → at ≤ length bytes → IsBlock (drop at bytes) → Begins bytes a
+one_begins bytes a at e h b = subst (λ (n : ℕ). (n ≤ length bytes) × IsBlock (drop n bytes)) (sym e) (h, b)
 
--- the last entry may come first
-pub waiting_first : (done written whole : List Entry) (k : List ℕ) (n : ℕ) → SameTotals written done → done ++ waiting k n ≡ whole → SameTotals ((k, n) ∷ written) whole
-waiting_first done written whole k n h w g = omega (arith, h g, ap (total g) w, total-append g done (waiting k n), total-waiting g k n)
+pub first_begun : (bytes others : List ℕ) (a : Loose) (at : ℕ) (p : Entry) (ps : List Entry) → a.at ≡ at → others ≡ drop at bytes → entries others ≡ p ∷ ps → entry_of bytes a ≡ p
+first_begun bytes others a at p ps e f h = ap (λ (n : ℕ). first_of (entries (drop n bytes))) e ∙ sym (ap (λ (bs : List ℕ). first_of (entries bs)) f) ∙ ap first_of h
 
 -- none was put yet
-pub none_put : (olds left es : List Entry) → left ≡ es → SameTotals (olds ++ left) (es ++ olds)
-none_put olds left es e g = omega (arith, ap (total g) e, total-append g olds left, total-append g es olds)
+pub none_put : (bytes : List ℕ) (all : List Loose) → all ≡ [] → SameTotals (entries_of bytes all ++ entries (drop 0 bytes)) (entries bytes)
+none_put bytes all e g = omega (arith, total-append g (entries_of bytes all) (entries bytes), ap (λ (xs : List Loose). total g (entries_of bytes xs)) e)
 
--- the last was put
-pub last_put : (olds news left es : List Entry) (p : Entry) → left ≡ es → SameTotals news (p ∷ olds) → SameTotals (news ++ left) ((p ∷ es) ++ olds)
-last_put olds news left es p e h g = omega (arith, h g, ap (total g) e, total-append g news left, total-append g (p ∷ es) olds)
-
--- what rises and what waits was put
-pub both_put : (none risen loose both all rising : List Entry) → none ≡ [] → SameTotals risen rising → SameTotals both (risen ++ none) → SameTotals all (loose ++ both)
-    → SameTotals all (rising ++ loose)
-both_put none risen loose both all rising e r b a g =
-    omega (arith, r g, b g, a g, ap (total g) e, total-append g risen none, total-append g loose both, total-append g rising loose)
+-- all were put
+pub all_begin : (bytes left : List ℕ) (all : List Loose) → entries left ≡ [] → SameTotals (entries_of bytes all ++ entries left) (entries bytes)
+    → SameTotals (entries_of bytes all) (entries bytes)
+all_begin bytes left all e h g = omega (arith, h g, total-append g (entries_of bytes all) (entries left), ap (total g) e)
 
 -- ---- in order
 
-abbrev weight : (List ℕ → ℕ) → Loose → ℕ
-weight g a = a.times * g a.key.now
+abbrev weight : List ℕ → (List ℕ → ℕ) → Loose → ℕ
+weight bytes g a = (entry_of bytes a).1 * g (entry_of bytes a).0
 
-total-entries : (g : List ℕ → ℕ) (all : List Loose) → total g (entries_of all) ≡ sum_by (weight g) all
-total-entries g [] = refl
-total-entries g (a ∷ all) = ap (λ (n : ℕ). weight g a + n) (total-entries g all) ∙ sym (sum_by-cons (weight g) a all)
+total-entries : (bytes : List ℕ) (g : List ℕ → ℕ) (all : List Loose) → total g (entries_of bytes all) ≡ sum_by (weight bytes g) all
+total-entries bytes g [] = refl
+total-entries bytes g (a ∷ all) = ap (λ (n : ℕ). weight bytes g a + n) (total-entries bytes g all) ∙ sym (sum_by-cons (weight bytes g) a all)
 
 -- in another order they weigh the same
-pub in_order_same : (all sorted : List Loose) (whole : List Entry) → IsPermutation all sorted → SameTotals (entries_of all) whole → SameTotals (entries_of sorted) whole
-in_order_same all sorted whole p h g =
-    total-entries g sorted ∙ sum_by-IsPermutation (weight g) all sorted p ∙ sym (total-entries g all) ∙ h g
+pub in_order_same : (bytes : List ℕ) (all sorted : List Loose) (whole : List Entry) → IsPermutation all sorted → SameTotals (entries_of bytes all) whole
+    → SameTotals (entries_of bytes sorted) whole
+in_order_same bytes all sorted whole p h g =
+    total-entries bytes g sorted ∙ sum_by-IsPermutation (weight bytes g) all sorted p ∙ sym (total-entries bytes g all) ∙ h g
 
 -- ---- put one after another
 
@@ -113,15 +112,62 @@ module _ {K : Type 0} where
   pub same_fit : (R : K → K → Ordering) (es fs : List (K × ℕ)) → SameTotals fs es → CountsFit R es → CountsFit R fs
   same_fit R es fs h c k = omega (arith, h (λ x. cond (is_eq (R k x)) 1 0), c k)
 
-  -- both are settled, and begin anew
-  pub all_settled : (r l r' l' : List (K × ℕ)) (olds mids news : List (List (K × ℕ))) → r' ≡ [] → l' ≡ [] → SameTotals (joined mids) ((r ++ l) ++ joined olds)
-      → SameTotals (joined news) (joined mids) → SameTotals (contents r' l' news) (contents r l olds)
-  all_settled r l r' l' olds mids news e f h k g = omega (arith, h g, k g, ap (total g) e, ap (total g) f, total_contents g r' l' news)
+  -- the loose ones are settled, and begin anew
+  pub loose_settled : (l l' : List (K × ℕ)) (olds mids news : List (List (K × ℕ))) → l' ≡ [] → SameTotals (joined mids) (l ++ joined olds)
+      → SameTotals (joined news) (joined mids) → SameTotals (l' ++ joined news) (l ++ joined olds)
+  loose_settled l l' olds mids news f h k g = omega (arith, h g, k g, ap (total g) f, total-append g l' (joined news))
 
-  pub all_parts : (R : K → K → Ordering) (r l r' l' : List (K × ℕ)) (olds news : List (List (K × ℕ))) → AreParts R r l olds → r' ≡ [] → l' ≡ []
-      → AreRuns R news → SameTotals (contents r' l' news) (contents r l olds) → AreParts R r' l' news
-  all_parts R r l r' l' olds news p e f runs h =
-      record { ascends = IsRun-empty R r' e; waits = subst Positive (sym f) tt; runs = runs; fits = same_fit R (contents r l olds) (contents r' l' news) h p.fits }
+  pub loose_fit : (R : K → K → Ordering) (r l : List (K × ℕ)) (rs : List (List (K × ℕ))) → CountsFit R (contents r l rs) → CountsFit R (l ++ joined rs)
+  loose_fit R r l rs h k = omega (arith, h k, total_contents (λ x. cond (is_eq (R k x)) 1 0) r l rs, total-append (λ x. cond (is_eq (R k x)) 1 0) l (joined rs))
+
+  pub loose_same : (r l l' : List (K × ℕ)) (rs rs' : List (List (K × ℕ))) → SameTotals (l' ++ joined rs') (l ++ joined rs) → SameTotals (contents r l' rs') (contents r l rs)
+  loose_same r l l' rs rs' h g = omega (arith, h g, total-append g l (joined rs), total-append g l' (joined rs'), total_contents g r l rs, total_contents g r l' rs')
+
+  pub loose_parts : (R : K → K → Ordering) (r l l' : List (K × ℕ)) (rs rs' : List (List (K × ℕ))) → AreParts R r l rs → Positive l' → AreRuns R rs'
+      → SameTotals (l' ++ joined rs') (l ++ joined rs) → AreParts R r l' rs'
+  loose_parts R r l l' rs rs' p w runs h =
+      record { ascends = p.ascends; waits = w; runs = runs; fits = same_fit R (contents r l rs) (contents r l' rs') (loose_same r l l' rs rs' h) p.fits }
+
+  -- a block is put among the others, or among the runs
+  pub block_added : (l l' b : List (K × ℕ)) (rs : List (List (K × ℕ))) → l' ≡ l ++ b → SameTotals (l' ++ joined rs) (b ++ (l ++ joined rs))
+  block_added l l' b rs e g =
+      omega (arith, ap (total g) e, total-append g l b, total-append g l' (joined rs), total-append g b (l ++ joined rs), total-append g l (joined rs))
+
+  pub block_run : (l l' b run : List (K × ℕ)) (rs rs' : List (List (K × ℕ))) → l' ≡ l → run ≡ b → SameTotals (joined rs') (run ++ joined rs)
+      → SameTotals (l' ++ joined rs') (b ++ (l ++ joined rs))
+  block_run l l' b run rs rs' e f h g =
+      omega (
+        arith,
+        h g,
+        ap (total g) e,
+        ap (total g) f,
+        total-append g l' (joined rs'),
+        total-append g run (joined rs),
+        total-append g b (l ++ joined rs),
+        total-append g l (joined rs),
+      )
+
+  -- the rising run is put among the others
+  pub risen_same : (r r' l l' b : List (K × ℕ)) (rs mids rs' : List (List (K × ℕ))) → b ≡ r → r' ≡ [] → mids ≡ rs
+      → SameTotals (l' ++ joined rs') (b ++ (l ++ joined mids)) → SameTotals (contents r' l' rs') (contents r l rs)
+  risen_same r r' l l' b rs mids rs' e f m h g =
+      omega (
+        arith,
+        h g,
+        ap (total g) e,
+        ap (total g) f,
+        ap (λ (xs : List (List (K × ℕ))). total g (joined xs)) m,
+        total-append g b (l ++ joined mids),
+        total-append g l (joined mids),
+        total-append g l' (joined rs'),
+        total_contents g r l rs,
+        total_contents g r' l' rs',
+      )
+
+  pub risen_parts : (R : K → K → Ordering) (r r' l l' b : List (K × ℕ)) (rs mids rs' : List (List (K × ℕ))) → AreParts R r l rs → b ≡ r → r' ≡ [] → mids ≡ rs
+      → Positive l' → AreRuns R rs' → SameTotals (l' ++ joined rs') (b ++ (l ++ joined mids)) → AreParts R r' l' rs'
+  risen_parts R r r' l l' b rs mids rs' p e f m w runs h =
+      record { ascends = IsRun-empty R r' f; waits = w; runs = runs; fits = same_fit R (contents r l rs) (contents r' l' rs') (risen_same r r' l l' b rs mids rs' e f m h) p.fits }
 
 -- ---- the loop
 
@@ -135,13 +181,23 @@ no_runs R rs e = subst (λ (xs : List (List Entry)). AreRuns R xs) (sym e) tt
 
 -- none
 abbrev pub nothing : Loose
-nothing = record { front = 0; key = record { ref_ptr = (0, 0); now = [] }; times = 0 }
+nothing = record { front = 0; next = 0; at = 0 }
 
--- the entry whose turn it is
-pub next_is : (all : List Loose) (i : ℕ) (d : Loose) → i < length all → entries_of (drop i all) ≡ entry_of (get_or all i d) ∷ entries_of (drop (i + 1) all)
-next_is all i d h =
+-- the one whose turn it is
+pub next_is : (bytes : List ℕ) (all : List Loose) (i : ℕ) (d : Loose) → i < length all
+    → entries_of bytes (drop i all) ≡ entry_of bytes (get_or all i d) ∷ entries_of bytes (drop (i + 1) all)
+next_is bytes all i d h =
     let more : suc i ≡ i + 1 = omega arith in
-    ap entries_of (drop-cons all i d h) ∙ ap (λ (n : ℕ). entry_of (get_or all i d) ∷ entries_of (drop n all)) more
+    ap (entries_of bytes) (drop-cons all i d h) ∙ ap (λ (n : ℕ). entry_of bytes (get_or all i d) ∷ entries_of bytes (drop n all)) more
+
+pub next_left : (bytes left : List ℕ) (all : List Loose) (i : ℕ) (d : Loose) → i < length all → left ≡ drop (get_or all i d).at bytes
+    → entries_of bytes (drop i all) ≡ first_of (entries left) ∷ entries_of bytes (drop (i + 1) all)
+next_left bytes left all i d h e =
+    next_is bytes all i d h ∙ ap (λ (bs : List ℕ). first_of (entries bs) ∷ entries_of bytes (drop (i + 1) all)) (sym e)
+
+-- where there is none, none was put
+pub none_first : (bytes : List ℕ) (es : List Entry) → entries bytes ≡ [] → SameTotals es (first_of (entries bytes) ∷ es)
+none_first bytes es e g = omega (arith, ap (λ (ps : List Entry). total g (first_of ps ∷ es)) e)
 
 pub turn_fits : (R : List ℕ → List ℕ → Ordering) (done left rest whole : List Entry) (p : Entry) → left ≡ p ∷ rest → SameTotals (done ++ left) whole → CountsFit R whole
     → CountsFit R (p ∷ done)

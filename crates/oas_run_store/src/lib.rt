@@ -15,12 +15,12 @@
 //! MiB of such keys. When these are full they are sorted and equal ones are joined. The rising run and the sorted keys become
 //! runs, one after the other, and the last two runs are merged as long as the last has more than half the size of the one
 //! before it. So each run is at most half of the one before, there are few of them, and a key is moved about log n times in
-//! whatever order keys come. A rising run that is no longer than what waits, or than a block, is sorted together with it
-//! instead, so that both become one run: most stores of a few keys never merge. No contract is about time or about bytes.
+//! whatever order keys come. A rising run that is no longer than what waits, or than a block, is put among it first, so that
+//! both become one run: most stores of a few keys never merge. No contract is about time or about bytes.
 //!
-//! A sort first looks at the eight bytes after the common prefix of all keys that wait, which it keeps beside each key. For
-//! keys of one kind on one layer, or for names with a common prefix, these bytes decide most comparisons. A sort is not
-//! promised to be correct: what comes out of order begins another run.
+//! A sort moves where the keys begin, not the keys: 16 bytes each, of which twelve are bytes of the key after the common prefix
+//! of all keys that wait. For keys of one kind on one layer, or for names with a common prefix, these decide most comparisons.
+//! A sort is not promised to be correct: what comes out of order begins another run.
 #![tactic(auto)]
 
 mod adding;

@@ -1,33 +1,57 @@
-//! The rising run and the loose keys, put into order.
+//! The loose keys, put into order.
 
-ghost use Rattle.std.specs.Prelude.{◌∷◌, ◌++◌, OnOk, IfOk};
+ghost use Rattle.std.specs.Prelude.{◌≡◌, ◌≤◌, IfOk, length, drop};
+ghost use Rattle.std.specs.List.{All};
+ghost use Rattle.oas_runs.specs.Entries.{entries, IsBlock};
 ghost use Rattle.oas_runs.specs.Runs.{SameTotals};
-ghost use Rattle.oas_run_store.specs.Loose.{entries_of};
+ghost use Rattle.oas_run_store.specs.Loose.{entries_of, Begins};
 
-use crate::rising::{Risen, Rising};
-use oas_runs::{AT_ONCE, Block, after, number_of, order_of, read_entry};
+use oas_runs::{AT_ONCE, after, number_of, order_of, read_entry};
 use std::alloc::{AllocError, Global};
 use std::cmp::Ordering;
 
-/// An entry that waits, with the eight bytes of its key after the common prefix of all keys, as a number. It decides most
-/// comparisons.
+/// Where an entry that waits begins, and the twelve bytes of its key after the common prefix of all keys, as two numbers. They
+/// decide most comparisons. It has 16 bytes, so that a sort moves little.
 #[derive(Clone, Copy)]
-pub(crate) struct Loose<'a> {
+pub(crate) struct Loose {
     front: u64,
-    pub(crate) key: &'a [u8],
-    pub(crate) times: u64,
+    next: u32,
+    at: u32,
 }
 
-/// The first eight bytes as a number, with the first of them highest. Where there are fewer, it is padded with zeros.
-fn front_of(bytes: &[u8]) -> u64 {
-    if bytes.len() >= AT_ONCE {
-        return number_of(bytes);
+impl Loose {
+    /// The bytes that begin with its entry.
+    #[inline(always)]
+    pub(crate) fn left(self, bytes: &[u8]) -> &[u8]
+        requires { Begins bytes.now self }
+        ensures { result.now ≡ drop self.at bytes.now }
+    {
+        after(bytes, self.at as usize)
     }
-    let mut front = [0; AT_ONCE];
+}
+
+/// How many bytes are compared before the keys are read.
+const FRONT: usize = AT_ONCE + 4;
+
+/// The first twelve bytes as two numbers, each with its first byte highest. Where there are fewer, they are padded with zeros.
+#[inline(always)]
+fn front_of(bytes: &[u8]) -> (u64, u32) {
+    if bytes.len() >= FRONT {
+        return (number_of(bytes), next_of(bytes));
+    }
+    let mut front = [0; FRONT];
     for (to, byte) in front.iter_mut().zip(bytes) {
         *to = *byte;
     }
-    u64::from_be_bytes(front)
+    (number_of(&front), next_of(&front))
+}
+
+/// The four bytes after the first eight, as a number.
+#[inline(always)]
+fn next_of(bytes: &[u8]) -> u32
+    requires { 12 ≤ length bytes.now }
+{
+    u32::from_be_bytes([bytes[8], bytes[9], bytes[10], bytes[11]])
 }
 
 /// The bytes of a key after this many.
@@ -38,12 +62,56 @@ fn behind(key: &[u8], shared: usize) -> &[u8] {
     }
 }
 
-/// Which of two keys is lower, where this many first bytes are the same.
-fn order(one: &Loose<'_>, other: &Loose<'_>, shared: usize) -> Ordering {
-    match one.front.cmp(&other.front) {
-        Ordering::Equal => order_of(behind(one.key, shared), behind(other.key, shared)),
-        apart => apart,
+/// The byte that announces a number of eight bytes in an entry.
+const LONG: u8 = 255;
+
+/// The number in front of an entry, and the bytes after it.
+fn number_in_front(bytes: &[u8]) -> (usize, &[u8]) {
+    match bytes.first() {
+        Some(first) if *first < LONG => (usize::from(*first), behind(bytes, 1)),
+        _ => (long_in_front(bytes), behind(bytes, 9)),
     }
+}
+
+/// A number of eight bytes, the low ones first, after the byte that announces it.
+fn long_in_front(bytes: &[u8]) -> usize {
+    if bytes.len() < 9 {
+        return 0;
+    }
+    u64::from_le_bytes([
+        bytes[1], bytes[2], bytes[3], bytes[4], bytes[5], bytes[6], bytes[7], bytes[8],
+    ]) as usize
+}
+
+/// The key of the entry in front. A sort may not ask for what is known of the bytes, so here they may be any.
+fn key_in_front(bytes: &[u8]) -> &[u8] {
+    let (len, after_len) = number_in_front(bytes);
+    let (_, key) = number_in_front(after_len);
+    match key.get(..len) {
+        Some(key) => key,
+        None => key,
+    }
+}
+
+/// Which of two keys is lower, by all their bytes.
+#[inline(never)]
+fn order_of_keys(one: &Loose, other: &Loose, bytes: &[u8]) -> Ordering {
+    order_of(
+        key_in_front(behind(bytes, one.at as usize)),
+        key_in_front(behind(bytes, other.at as usize)),
+    )
+}
+
+/// Which of two keys is lower.
+#[inline(always)]
+fn order(one: &Loose, other: &Loose, bytes: &[u8]) -> Ordering {
+    if one.front != other.front {
+        return one.front.cmp(&other.front);
+    }
+    if one.next != other.next {
+        return one.next.cmp(&other.next);
+    }
+    order_of_keys(one, other, bytes)
 }
 
 /// How many of these bytes a key begins with.
@@ -86,33 +154,18 @@ impl<'a> Common<'a> {
     }
 }
 
-/// A key of the rising run or, where it is empty, the first that waits.
-fn any_key<'a>(risen: &Risen<'a>, loose: &'a Block) -> &'a [u8] {
-    if risen.times > 0 {
-        return risen.last;
-    }
-    match loose.first() {
-        Some(entry) => entry.key,
-        None => &[],
-    }
-}
-
-/// What all keys of the rising run have in common with a prefix of all.
-fn common_to_risen<'a>(risen: Risen<'a>, front: &'a [u8]) -> Common<'a> {
-    let count = usize::from(risen.times > 0);
-    let mut common = Common { count, front };
-    for (key, _) in risen.written {
-        common = common.with(key);
-    }
-    common
-}
-
-/// What all keys that rise or wait have in common.
-fn common_to_all<'a>(rising: &'a Rising<Vec<u8>>, loose: &'a Block) -> Common<'a> {
-    let risen = rising.entries();
-    let front = any_key(&risen, loose);
-    let mut common = common_to_risen(risen, front);
-    let mut left = loose.left();
+/// What all keys of a block have in common.
+fn common_to_all(bytes: &[u8]) -> Common<'_>
+    requires { IsBlock bytes.now }
+{
+    let mut common = Common {
+        count: 0,
+        front: match read_entry(bytes) {
+            Some(entry) => entry.key,
+            None => &[],
+        },
+    };
+    let mut left = bytes;
     while let Some(entry) = read_entry(left) {
         common = common.with(entry.key);
         left = after(left, entry.end);
@@ -120,71 +173,43 @@ fn common_to_all<'a>(rising: &'a Rising<Vec<u8>>, loose: &'a Block) -> Common<'a
     common
 }
 
-/// Adds an entry to the others, if its count isn't 0.
-#[inline(always)]
-fn put_one<'a>(
-    all: &mut Vec<Loose<'a>>,
-    key: &'a [u8],
-    times: u64,
-    shared: usize,
-) -> Result<(), AllocError>
-    ensures { OnOk result (SameTotals (entries_of all.new.items) ((key.now, times) ∷ entries_of all.old.items)) }
-{
-    if times == 0 {
-        return Ok(());
-    }
-    all.push(Loose {
-        front: front_of(behind(key, shared)),
-        key,
-        times,
-    })?;
-    Ok(())
-}
-
-/// Adds the rising run to the others.
-fn put_risen<'a>(
-    all: &mut Vec<Loose<'a>>,
-    risen: Risen<'a>,
-    shared: usize,
-) -> Result<(), AllocError>
-    ensures { OnOk result (SameTotals (entries_of all.new.items) (((risen.entry.last.now, risen.entry.times) ∷ risen.entry.written) ++ entries_of all.old.items)) }
-{
-    put_one(all, risen.last, risen.times, shared)?;
-    for (key, times) in risen.written {
-        put_one(all, key, times, shared)?;
-    }
-    Ok(())
-}
-
-/// Adds what waits loose to the others.
-fn put_loose<'a>(
-    all: &mut Vec<Loose<'a>>,
-    loose: &'a Block,
-    shared: usize,
-) -> Result<(), AllocError>
-    ensures { OnOk result (SameTotals (entries_of all.new.items) (loose.now ++ entries_of all.old.items)) }
-{
-    let mut left = loose.left();
-    while let Some(entry) = read_entry(left) {
-        put_one(all, entry.key, entry.times, shared)?;
-        left = after(left, entry.end);
-    }
-    Ok(())
-}
-
-/// All that rises and all that waits loose, in the order of the keys. Its memory is reserved at once.
-pub(crate) fn in_order<'a>(
+/// Where the entries of a block begin. Memory for this many is reserved at once.
+fn begins_of(
     alloc: Global,
-    rising: &'a Rising<Vec<u8>>,
-    loose: &'a Block,
-) -> Result<Vec<Loose<'a>>, AllocError>
-    ensures { IfOk result (λ all. SameTotals (entries_of all.items) (rising.now ++ loose.now)) }
+    bytes: &[u8],
+    count: usize,
+    shared: usize,
+) -> Result<Vec<Loose>, AllocError>
+    requires { IsBlock bytes.now }
+    ensures begin { IfOk result (λ all. All (Begins bytes.now) all.items) }
+    ensures same { IfOk result (λ all. SameTotals (entries_of bytes.now all.items) (entries bytes.now)) }
 {
-    let common = common_to_all(rising, loose);
+    let mut all = Vec::with_capacity(alloc, count)?;
+    let mut at = 0;
+    while let Some(entry) = read_entry(after(bytes, at)) {
+        let Ok(begin) = u32::try_from(at) else {
+            return Err(AllocError);
+        };
+        let (front, next) = front_of(behind(entry.key, shared));
+        all.push(Loose {
+            front,
+            next,
+            at: begin,
+        })?;
+        at += entry.end;
+    }
+    Ok(all)
+}
+
+/// Where the entries of a block begin, in the order of their keys.
+pub(crate) fn in_order(alloc: Global, bytes: &[u8]) -> Result<Vec<Loose>, AllocError>
+    requires { IsBlock bytes.now }
+    ensures begin { IfOk result (λ all. All (Begins bytes.now) all.items) }
+    ensures same { IfOk result (λ all. SameTotals (entries_of bytes.now all.items) (entries bytes.now)) }
+{
+    let common = common_to_all(bytes);
     let shared = common.front.len();
-    let mut all = Vec::with_capacity(alloc, common.count)?;
-    put_risen(&mut all, rising.entries(), shared)?;
-    put_loose(&mut all, loose, shared)?;
-    all.sort_unstable_by(|one, other| order(one, other, shared));
+    let mut all = begins_of(alloc, bytes, common.count, shared)?;
+    all.sort_unstable_by(|one, other| order(one, other, bytes));
     Ok(all)
 }

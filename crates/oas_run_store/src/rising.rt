@@ -6,10 +6,9 @@ ghost use Rattle.std.specs.Cmp.Lexicographic.{slice_cmp};
 ghost use Rattle.std.specs.Ordering.{nat_cmp};
 ghost use Rattle.std.specs.Vec.{vec_capacity};
 ghost use Rattle.oas_run_store.specs.Parts.{IsBelow, EndsWith};
-ghost use Rattle.oas_runs.specs.Runs.{SameTotals};
 
 use crate::last::LastKey;
-use oas_runs::{Entries, Growing, MARGIN, Run, order_of, size_with};
+use oas_runs::{Growing, MARGIN, Run, order_of, size_with};
 use std::alloc::{AllocError, Global};
 use std::cmp::Ordering;
 use std::marker::Model;
@@ -34,15 +33,6 @@ impl<K: LastKey> Model for Rising<K> {
     ghost view = { λ a. a.done ++ waiting (K.key a.last) a.times };
 
     ghost invariant = { λ a. a.times ≡ 0 → a.done ≡ [] };
-}
-
-/// The entries of the rising run, in no order: the last one, with a count of 0 where there is none, and those that are
-/// written.
-#[derive(Drop)]
-pub(crate) struct Risen<'a> {
-    pub(crate) last: &'a [u8],
-    pub(crate) times: u64,
-    pub(crate) written: Entries<'a>,
 }
 
 impl<K: LastKey> Rising<K> {
@@ -108,17 +98,6 @@ impl Rising<Vec<u8>> {
             return 0;
         }
         size_with(self.done.size(), &self.last)
-    }
-
-    /// The entries, in no order.
-    pub(crate) fn entries(&self) -> Risen<'_>
-        ensures { SameTotals ((result.last.now, result.times) ∷ result.written) self.now }
-    {
-        Risen {
-            last: &self.last,
-            times: self.times,
-            written: self.done.entries(),
-        }
     }
 
     /// Puts an entry at the end, or nothing.

@@ -1,10 +1,12 @@
 //! The rising run and the loose keys become runs.
 
-ghost use Rattle.std.specs.Prelude.{◌≡◌, ◌≤◌, [], ◌∷◌, ◌++◌, IfOk, OnOk, IsTrue, vec_len};
+ghost use Rattle.std.specs.Prelude.{◌≡◌, ◌<◌, ◌≤◌, [], ◌∷◌, ◌++◌, IfOk, OnOk, IsTrue, vec_len, vec_capacity};
 ghost use Rattle.std.specs.Cmp.Lexicographic.{slice_cmp};
 ghost use Rattle.std.specs.Ordering.{nat_cmp};
-ghost use Rattle.oas_runs.specs.Runs.{IsRun, SameTotals};
-ghost use Rattle.oas_run_store.specs.Loose.{entries_of};
+ghost use Rattle.std.specs.List.{All};
+ghost use Rattle.oas_runs.specs.Runs.{IsRun, Positive, SameTotals};
+ghost use Rattle.oas_run_store.specs.Loose.{first_of, entries_of, Begins};
+ghost use Rattle.oas_runs.specs.Entries.{entries, IsBlock};
 ghost use Rattle.oas_runs.specs.Blocks.{joined};
 ghost use Rattle.oas_run_store.specs.Parts.{contents, AreRuns, AreParts, CountsFit};
 
@@ -12,7 +14,7 @@ use crate::joining::{add_run, join_all, join_close};
 use crate::last::LastKey;
 use crate::loose::{Loose, in_order};
 use crate::rising::Rising;
-use oas_runs::{BLOCK, Block, Run};
+use oas_runs::{BLOCK, Block, Run, read_entry};
 use std::alloc::{AllocError, Global};
 use std::cmp::Ordering;
 
@@ -68,33 +70,98 @@ fn put_next<'a>(
     Ok(())
 }
 
-/// Entries with this many bytes as runs: one run, where their keys ascend.
-fn runs_of(alloc: Global, sorted: &[Loose<'_>], bytes: usize) -> Result<Vec<Run>, AllocError>
-    requires { CountsFit (slice_cmp nat_cmp) (entries_of sorted.now) }
-    ensures runs { IfOk result (λ runs. AreRuns (slice_cmp nat_cmp) runs.items) }
-    ensures same { IfOk result (λ runs. SameTotals (joined runs.items) (entries_of sorted.now)) }
+/// Adds the entry in front of these bytes to that run.
+fn put_first<'a>(
+    alloc: Global,
+    summing: &mut Rising<&'a [u8]>,
+    runs: &mut Vec<Run>,
+    left: &'a [u8],
+) -> Result<(), AllocError>
+    requires block { IsBlock left.now }
+    requires run { IsRun (slice_cmp nat_cmp) summing.old }
+    requires runs { AreRuns (slice_cmp nat_cmp) runs.old.items }
+    requires fits { CountsFit (slice_cmp nat_cmp) (first_of (entries left.now) ∷ (summing.old ++ joined runs.old.items)) }
+    ensures run { OnOk result (IsRun (slice_cmp nat_cmp) summing.new) }
+    ensures runs { OnOk result (AreRuns (slice_cmp nat_cmp) runs.new.items) }
+    ensures same { OnOk result (SameTotals (summing.new ++ joined runs.new.items) (first_of (entries left.now) ∷ (summing.old ++ joined runs.old.items))) }
 {
-    let mut summing = Rising::with_bytes(alloc, bytes)?;
+    match read_entry(left) {
+        Some(entry) => put_next(alloc, summing, runs, entry.key, entry.times),
+        None => Ok(()),
+    }
+}
+
+/// The entries that begin in these places, as runs: one run, where their keys ascend.
+fn runs_of(alloc: Global, sorted: &[Loose], bytes: &[u8]) -> Result<Vec<Run>, AllocError>
+    requires begin { All (Begins bytes.now) sorted.now }
+    requires fits { CountsFit (slice_cmp nat_cmp) (entries_of bytes.now sorted.now) }
+    ensures runs { IfOk result (λ runs. AreRuns (slice_cmp nat_cmp) runs.items) }
+    ensures same { IfOk result (λ runs. SameTotals (joined runs.items) (entries_of bytes.now sorted.now)) }
+{
+    let mut summing = Rising::with_bytes(alloc, bytes.len())?;
     let mut runs = Vec::new(alloc);
-    for entry in sorted {
-        put_next(alloc, &mut summing, &mut runs, entry.key, entry.times)?;
+    for place in sorted {
+        put_first(alloc, &mut summing, &mut runs, place.left(bytes))?;
     }
     settle_rising(alloc, &mut summing, &mut runs)?;
     Ok(runs)
 }
 
-/// The rising run and the loose keys, as runs.
-fn settled(alloc: Global, rising: &Rising<Vec<u8>>, loose: &Block) -> Result<Vec<Run>, AllocError>
-    requires { CountsFit (slice_cmp nat_cmp) (rising.now ++ loose.now) }
+/// The loose keys, as runs.
+fn settled(alloc: Global, loose: &Block) -> Result<Vec<Run>, AllocError>
+    requires { CountsFit (slice_cmp nat_cmp) loose.now }
     ensures runs { IfOk result (λ runs. AreRuns (slice_cmp nat_cmp) runs.items) }
-    ensures same { IfOk result (λ runs. SameTotals (joined runs.items) (rising.now ++ loose.now)) }
+    ensures same { IfOk result (λ runs. SameTotals (joined runs.items) loose.now) }
 {
-    let sorted = in_order(alloc, rising, loose)?;
-    runs_of(alloc, &sorted, rising.size().saturating_add(loose.size()))
+    let bytes = loose.left();
+    let sorted = in_order(alloc, bytes)?;
+    runs_of(alloc, &sorted, bytes)
 }
 
-/// Makes runs of the rising run and of the loose keys, of both together; or changes nothing.
-fn settle_both(
+/// Makes runs of the loose keys, or changes nothing.
+fn settle_loose(alloc: Global, loose: &mut Block, runs: &mut Vec<Run>) -> Result<(), AllocError>
+    requires runs { AreRuns (slice_cmp nat_cmp) runs.old.items }
+    requires fits { CountsFit (slice_cmp nat_cmp) (loose.old ++ joined runs.old.items) }
+    requires waits { Positive loose.old }
+    ensures runs { AreRuns (slice_cmp nat_cmp) runs.new.items }
+    ensures waits { Positive loose.new }
+    ensures same { SameTotals (loose.new ++ joined runs.new.items) (loose.old ++ joined runs.old.items) }
+    ensures ok { OnOk result (loose.new ≡ []) }
+{
+    let mut more = settled(alloc, loose)?;
+    runs.append(&mut more)?;
+    loose.clear();
+    join_close(alloc, runs);
+    Ok(())
+}
+
+/// Puts a block among what waits loose. If out of memory, it becomes one of the runs, which have room for it.
+fn add_block(
+    alloc: Global,
+    loose: &mut Block,
+    runs: &mut Vec<Run>,
+    block: Block,
+) -> Result<(), AllocError>
+    requires room { vec_len runs.old < vec_capacity runs.old }
+    requires run { IsRun (slice_cmp nat_cmp) block }
+    requires runs { AreRuns (slice_cmp nat_cmp) runs.old.items }
+    requires fits { CountsFit (slice_cmp nat_cmp) (block ++ joined runs.old.items) }
+    requires waits { Positive loose.old }
+    ensures runs { AreRuns (slice_cmp nat_cmp) runs.new.items }
+    ensures waits { Positive loose.new }
+    ensures same { SameTotals (loose.new ++ joined runs.new.items) (block ++ (loose.old ++ joined runs.old.items)) }
+{
+    match loose.append_all(&block) {
+        Ok(()) => Ok(()),
+        Err(error) => {
+            add_run(alloc, runs, Run::of_block(block));
+            Err(error)
+        }
+    }
+}
+
+/// Puts the rising run among what waits loose; where it has several blocks, it becomes one of the runs.
+fn loosen(
     alloc: Global,
     rising: &mut Rising<Vec<u8>>,
     loose: &mut Block,
@@ -103,15 +170,17 @@ fn settle_both(
     requires { AreParts (slice_cmp nat_cmp) rising.old loose.old runs.old.items }
     ensures parts { AreParts (slice_cmp nat_cmp) rising.new loose.new runs.new.items }
     ensures same { SameTotals (contents rising.new loose.new runs.new.items) (contents rising.old loose.old runs.old.items) }
-    ensures rising { OnOk result (rising.new ≡ []) }
-    ensures loose { OnOk result (loose.new ≡ []) }
+    ensures ok { OnOk result (rising.new ≡ []) }
 {
-    let mut more = settled(alloc, rising, loose)?;
-    runs.append(&mut more)?;
-    *rising = Rising::new(alloc);
-    loose.clear();
-    join_close(alloc, runs);
-    Ok(())
+    runs.reserve(1)?;
+    let run = rising.close(alloc)?;
+    match run.into_block() {
+        Ok(block) => add_block(alloc, loose, runs, block),
+        Err(whole) => {
+            add_run(alloc, runs, whole);
+            Ok(())
+        }
+    }
 }
 
 /// Closes the rising run, where it is longer than what waits loose or than a block: then a merge of both costs less than
@@ -146,7 +215,8 @@ pub(crate) fn settle(
     ensures loose { OnOk result (loose.new ≡ []) }
 {
     settle_long(alloc, rising, loose, runs)?;
-    settle_both(alloc, rising, loose, runs)
+    loosen(alloc, rising, loose, runs)?;
+    settle_loose(alloc, loose, runs)
 }
 
 /// Makes one run of all, or none where there are no keys, and returns whether it did. If out of memory, all is still held.

@@ -2,9 +2,6 @@
 use Rattle.std.specs.Prelude.{◌≡◌, List, [], ◌∷◌, ◌++◌, length, refl}
 use Rattle.std.proofs.Common.{sym, ◌∙◌, ap, arith, append_assoc, append-nil}
 use Rattle.oas_runs.specs.Blocks.{joined}
-use Rattle.oas_runs.specs.Entries.{Entry}
-use Rattle.oas_runs.specs.Runs.{total, SameTotals}
-use Rattle.oas_runs.specs.Laws.RunLaws.{total-append}
 
 module _ {X : Type 0} where
   pub joined-more : (xss : List (List X)) (xs : List X) → joined (xss ++ xs ∷ []) ≡ joined xss ++ xs
@@ -26,8 +23,3 @@ module _ {X : Type 0} where
   pub front-nil : (xs ys : List X) → xs ++ ys ≡ [] → xs ≡ []
   front-nil [] ys e = refl
   front-nil (x ∷ xs) ys e = let l = ap length e in absurd (omega (arith, l))
-
--- the last block may come first
-pub last_first : (full : List (List Entry)) (last es whole : List Entry) → es ≡ last ++ joined full → joined full ++ last ≡ whole → SameTotals es whole
-last_first full last es whole e w g =
-    omega (arith, ap (total g) e, ap (total g) w, total-append g last (joined full), total-append g (joined full) last)

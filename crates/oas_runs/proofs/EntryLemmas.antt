@@ -5,7 +5,7 @@ use Rattle.std.proofs.lemmas.Bool.{lt-ltb}
 use Rattle.std.proofs.Common.{sym, ◌∙◌, ap, arith, subst}
 use Rattle.std.proofs.lemmas.List.{drop-append-le}
 use Rattle.oas_runs.specs.Entries.{Entry, number_size, number_at, key_start, entry_end, entries, entry_bytes, Fits, IsBlock}
-use Rattle.oas_runs.specs.Laws.EntryLaws.{Stands, IsMore, block-append, stands}
+use Rattle.oas_runs.specs.Laws.EntryLaws.{Stands, IsMore, block-append, block-append_all, stands}
 
 pub record Reads (bytes key : List ℕ) (times end : ℕ) : Type 0 where
   pub within : end ≤ length bytes
@@ -61,6 +61,13 @@ pub appended : (start : ℕ) (olds news : List ℕ) (p : Entry) → start ≤ le
 appended start olds news p h b fits e =
     let is : drop start news ≡ drop start olds ++ entry_bytes p = ap (λ (bs : List ℕ). drop start bs) e ∙ drop-append-le start olds (entry_bytes p) h in
     subst (λ (bs : List ℕ). IsMore bs (entries (drop start olds) ++ p ∷ [])) (sym is) (block-append (drop start olds) p b fits)
+
+-- the entries of another block, at the end of such a block
+pub appended_all : (start : ℕ) (olds news more : List ℕ) → start ≤ length olds → IsBlock (drop start olds) → IsBlock more → news ≡ olds ++ more →
+    IsMore (drop start news) (entries (drop start olds) ++ entries more)
+appended_all start olds news more h b m e =
+    let is : drop start news ≡ drop start olds ++ more = ap (λ (bs : List ℕ). drop start bs) e ∙ drop-append-le start olds more h in
+    subst (λ (bs : List ℕ). IsMore bs (entries (drop start olds) ++ entries more)) (sym is) (block-append_all (drop start olds) more b m)
 
 -- no entries are no bytes
 pub none-left : (bytes : List ℕ) → entries bytes ≡ [] → length bytes ≡ 0

@@ -4,6 +4,7 @@ ghost use Rattle.std.specs.Prelude.{◌≡◌, ◌+◌, ◌<◌, ◌≤◌, [], 
 ghost use Rattle.oas_runs.specs.Entries.{IsBlock, entries};
 
 use crate::entry::{Entry, after, is_over, push_entry, read_entry};
+use crate::room::reserve_more;
 use std::alloc::{AllocError, Global};
 use std::marker::Model;
 
@@ -95,6 +96,17 @@ impl Block {
         ensures err { OnErr result (self.new ≡ self.old) }
     {
         push_entry(&mut self.bytes, key, times)?;
+        Ok(())
+    }
+
+    /// Puts the entries of another block at the end.
+    pub fn append_all(&mut self, more: &Block) -> Result<(), AllocError>
+        ensures ok { OnOk result (self.new ≡ self.old ++ more.now) }
+        ensures err { OnErr result (self.new ≡ self.old) }
+    {
+        let left = more.left();
+        reserve_more(&mut self.bytes, left.len())?;
+        self.bytes.extend_from_slice(left)?;
         Ok(())
     }
 

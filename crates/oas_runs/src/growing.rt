@@ -2,11 +2,9 @@
 
 ghost use Rattle.std.specs.Prelude.{◌≡◌, [], ◌∷◌, ◌++◌, List, OnOk, OnErr, IfOk};
 ghost use Rattle.oas_runs.specs.Blocks.{joined};
-ghost use Rattle.oas_runs.specs.Runs.{SameTotals};
 
 use crate::block::Block;
 use crate::blocks::Blocks;
-use crate::entries::Entries;
 use crate::entry::SHORT_HEAD;
 use crate::run::Run;
 use std::alloc::{AllocError, Global};
@@ -82,13 +80,6 @@ impl Growing {
     /// How many bytes were put, about.
     pub fn size(&self) -> usize {
         self.size
-    }
-
-    /// The entries, those of the last block first.
-    pub fn entries(&self) -> Entries<'_>
-        ensures { SameTotals result self.now }
-    {
-        Entries::of(self.last.left(), &self.full)
     }
 
     /// The run that was written.

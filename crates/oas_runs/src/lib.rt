@@ -4,15 +4,15 @@
 //!
 //! - The bytes of an entry and of a block are in specs/Entries.antt. No bytes spell two lists of entries (specs/Laws).
 //!   [`read_entry`] reads the first entry, and [`after`] returns the bytes after it, which are entries again.
-//! - Contracts see a [`Block`] as the list of its entries that are left. One more can be put at its end; if out of memory
-//!   none is. A block can be cleared, and gives back idle memory. Its first entry and the bytes that are left can be read.
+//! - Contracts see a [`Block`] as the list of its entries that are left. One more, or all of another block, can be put at its
+//!   end; if out of memory none is. A block can be cleared, and gives back idle memory. Its first entry and the bytes that are
+//!   left can be read.
 //! - Contracts see a [`Run`] as the list of its entries that are left. Its first entry can be read and taken; a block that is
 //!   used up is freed. A run of one block is made of the block (`Run::of_block`), and gives it back (`Run::into_block`).
 //!   [`Run::entries`] iterates over all that are left, and `==` compares them (specs/Comparing.antt: it
 //!   holds exactly for equal lists).
 //! - A [`Growing`] run is written entry by entry into blocks of bytes. If out of memory it is unchanged. It becomes a [`Run`]
-//!   of the same entries without allocation. Before that, [`Growing::entries`] iterates over what was written, in no order:
-//!   whatever a key weighs, all together weigh the same. [`Growing::fit`] doesn't change the list.
+//!   of the same entries without allocation. [`Growing::fit`] doesn't change the list.
 //! - [`merge_all`] moves two runs to the end of an empty one, and adds the counts of a key that both have. The result is a
 //!   run, with as much of each key as before (`IsMerging`, specs/Merging.antt). If out of memory in the middle, the three
 //!   together hold what the two did.

@@ -139,6 +139,17 @@ block-append bytes p b fits =
     let written : bytes ++ entry_bytes p ≡ block_bytes (entries bytes ++ p ∷ []) = (λ i. b.is i ++ sym one i) ∙ sym (block_bytes-append (entries bytes) (p ∷ [])) in
     record { block = IsBlock-written _ _ all written; entries = entries-written _ _ all written }
 
+fits_all : (ps qs : List Entry) → AllByRecursion Fits ps → AllByRecursion Fits qs → AllByRecursion Fits (ps ++ qs)
+fits_all [] qs h k = k
+fits_all (p ∷ ps) qs h k = (h.0, fits_all ps qs h.1 k)
+
+-- the entries of another block
+pub block-append_all : (bytes more : List ℕ) → IsBlock bytes → IsBlock more → IsMore (bytes ++ more) (entries bytes ++ entries more)
+block-append_all bytes more b m =
+    let all = fits_all (entries bytes) (entries more) b.fits m.fits in
+    let written : bytes ++ more ≡ block_bytes (entries bytes ++ entries more) = (λ i. b.is i ++ m.is i) ∙ sym (block_bytes-append (entries bytes) (entries more)) in
+    record { block = IsBlock-written _ _ all written; entries = entries-written _ _ all written }
+
 -- ---- reading the first entry of a block
 
 -- what reading it requires, and what is read

@@ -8,9 +8,9 @@ use Rattle.oas_run_store.specs.Loose.{entries_of}
 use Rattle.oas_run_store.proofs.settling.runs_of.Given as goal
 
 -- what was put, and what is left
-abbrev pub invariant-loop-entry : goal.invariant-loop-entry
-invariant-loop-entry l = record {
+abbrev pub invariant-loop-place : goal.invariant-loop-place
+invariant-loop-place l = record {
   run : IsRun (slice_cmp nat_cmp) l.summing;
   are : AreRuns (slice_cmp nat_cmp) l.runs.items;
-  same : SameTotals ((l.summing ++ joined l.runs.items) ++ entries_of (drop l.entry-index l.sorted)) (entries_of l.sorted);
+  same : SameTotals ((l.summing ++ joined l.runs.items) ++ entries_of l.bytes (drop l.place-index l.sorted)) (entries_of l.bytes l.sorted);
 }

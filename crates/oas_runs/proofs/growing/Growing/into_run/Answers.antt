@@ -1,4 +1,4 @@
-use Rattle.std.proofs.Common.{◌∙◌, sym}
+use Rattle.std.proofs.Common.{◌∙◌}
 use Rattle.oas_runs.proofs.BlockLemmas.{turned}
 use Rattle.oas_runs.proofs.growing.Growing.into_run.Goals as goal
 
