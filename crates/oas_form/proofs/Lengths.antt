@@ -1,6 +1,6 @@
 -- The lengths in bytes of numbers, strings, places and point lists.
-use Rattle.std.proofs.Common.{◌≡◌, ℕ, zero, suc, ◌+◌, ◌-◌, ◌*◌, ◌/◌, ◌≤◌, List, ◌∷◌, ◌++◌, length, length-append, inl, inr, refl, arith, []}
-use Rattle.std.specs.Prelude.{ℤ, pos, negsuc, nat_abs, ◌-ℤ◌}
+use Rattle.std.proofs.Common.{ℕ, zero, suc, ◌+◌, ◌-◌, ◌*◌, ◌/◌, ◌≤◌, List, ◌∷◌, ◌++◌, length, length-append, inl, inr, arith, []}
+use Rattle.std.specs.Prelude.{ℤ, ◌-ℤ◌}
 use Rattle.std.proofs.lemmas.Bool.{cases_lt, lt-ltb, le-ltb}
 use Rattle.oas_num.specs.Style.{code}
 use Rattle.oas_num.specs.Writing.{groups, shortest, shortest_signed, shortest_gdelta}
@@ -29,33 +29,6 @@ length-signed z = length-shortest (code z)
 pub length-gdelta : (dx dy : ℤ) → length (shortest_gdelta dx dy) ≤ 20
 unfolding shortest_gdelta
 length-gdelta dx dy = omega (arith, length-append (shortest (2 * code dx + 1)) (shortest (code dy)), length-shortest (2 * code dx + 1), length-shortest (code dy))
-
-same_groups : (n m : ℕ) → n / 4 ≡ m / 4 → n / 128 ≡ m / 128
-same_groups n m e = omega (arith, e)
-
--- the lowest two bits take no byte of their own
-low_bits : (k n m : ℕ) → n / 4 ≡ m / 4 → length (groups k n) ≡ length (groups k m)
-low_bits zero n m e = refl
-low_bits (suc k) n m e = elim (cases_lt n 128) [
-  | inl small ↦ rw (lt-ltb n 128 small, lt-ltb m 128 (omega (arith, small, e))) refl
-  | inr large ↦ rw (le-ltb n 128 large, le-ltb m 128 (omega (arith, large, e)), same_groups n m e) refl
-]
-
-pub length-low_bits : (n m : ℕ) → n / 4 ≡ m / 4 → length (shortest n) ≡ length (shortest m)
-unfolding shortest
-length-low_bits n m e = low_bits 10 n m e
-
--- the signs and the form of a g-delta take no bytes of their own
-pub length-by_step : (dx dy : ℤ) → length (shortest (4 * nat_abs dx)) + length (shortest (2 * nat_abs dy)) ≡ length (shortest_gdelta dx dy)
-unfolding shortest_gdelta
-length-by_step dx dy = omega (arith, length-append (shortest (2 * code dx + 1)) (shortest (code dy)), first dx, second dy) where
-  first : (z : ℤ) → length (shortest (4 * nat_abs z)) ≡ length (shortest (2 * code z + 1))
-  first (pos n) = length-low_bits (4 * n) (2 * (2 * n) + 1) (omega arith)
-  first (negsuc n) = length-low_bits (4 * suc n) (2 * (2 * n + 3) + 1) (omega arith)
-
-  second : (z : ℤ) → length (shortest (2 * nat_abs z)) ≡ length (shortest (code z))
-  second (pos n) = refl
-  second (negsuc n) = length-low_bits (2 * suc n) (2 * n + 3) (omega arith)
 
 -- ---- the parts of records
 

@@ -6,6 +6,7 @@ use Rattle.std.specs.List.{list_all, IsFirstAndRest}
 use Rattle.std.specs.Borrow.{Bor}
 use Rattle.std.proofs.lemmas.Bool.{and_parts}
 use Rattle.std.proofs.lemmas.Int.{ints, to_z-of_z, fits_signed_from_abs}
+use Rattle.oas_num.specs.Style.{code}
 use Rattle.oas_num.specs.Writing.{PutsPrefix, shortest, shortest_gdelta}
 use Rattle.oas_ring.specs.declared.point.Point.{Point}
 use Rattle.oas_elements.specs.Grid.{is_coordinate, is_grid_point}
@@ -60,6 +61,10 @@ module _ (p q : Point) (h : is_grid_point p ≡ true) (k : is_grid_point q ≡ t
 
   pub up_short : nat_abs (q.y -ℤ p.y) ≤ 2 ^ 61
   up_short = apart p.y q.y (and_parts (is_coordinate p.x) (is_coordinate p.y) h).1 (and_parts (is_coordinate q.x) (is_coordinate q.y) k).1
+
+-- the number that spells one part of a step
+pub part_coded : (value part : ℤ) (number : ℕ) → nat_abs value ≤ 2 ^ 61 → value ≡ part → number ≡ code (to_z w64 (of_z w64 value)) → number ≡ code part
+part_coded value part number short is e = e ∙ ap code (to_z-of_z w64 value (fits_signed_from_abs w64 value (omega (arith, short))) ∙ is)
 
 -- ---- all of them
 

@@ -1,6 +1,6 @@
 //! The parts of records, put and counted.
 
-ghost use Rattle.std.specs.Prelude.{◌≡◌, ◌+◌, ◌≤◌, length, true, IfOk};
+ghost use Rattle.std.specs.Prelude.{◌≡◌, ◌+◌, ◌≤◌, ◌^◌, length, nat_abs, true, IfOk};
 ghost use Rattle.oas_num.specs.Style.{code};
 ghost use Rattle.oas_num.specs.Writing.{shortest, shortest_signed};
 ghost use Rattle.oas_elements.specs.Grid.{is_coordinate};
@@ -9,9 +9,9 @@ ghost use Rattle.oas_form.specs.Putting.{Counts};
 
 use oas_num::{Sink, SinkFault};
 
-/// The number that spells a coordinate: the sign in its lowest bit, the magnitude above it.
-fn coded(value: i64) -> u64
-    requires { is_coordinate value ≡ true }
+/// The number that spells a signed one: the sign in its lowest bit, the magnitude above it.
+pub(crate) fn coded(value: i64) -> u64
+    requires { nat_abs value ≤ 2 ^ 61 }
     ensures { result ≡ code value }
 {
     let magnitude = 2 * value.unsigned_abs();
@@ -51,7 +51,8 @@ pub fn put_coordinate<K: Sink>(sink: &mut K, value: i64) -> Result<u64, SinkFaul
     put_number(sink, coded(value))
 }
 
-/// Puts x and y, and returns their length.
+/// Puts x and y, and returns their length. It is inlined in the records' functions, each of which ends with it.
+#[inline(always)]
 pub fn put_place<K: Sink>(sink: &mut K, x: i64, y: i64) -> Result<u64, SinkFault>
     requires x { is_coordinate x ≡ true }
     requires y { is_coordinate y ≡ true }

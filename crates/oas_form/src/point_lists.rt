@@ -8,8 +8,8 @@ ghost use Rattle.oas_elements.specs.Grid.{is_grid_point};
 ghost use Rattle.oas_form.specs.Bytes.{step_bytes, list_bytes, points_bytes};
 ghost use Rattle.oas_form.specs.Putting.{Counts};
 
-use crate::parts::{put_bytes, put_number, put_place};
-use oas_num::{GDelta, Sink, SinkFault, put_gdelta, unsigned_len};
+use crate::parts::{coded, put_bytes, put_number, put_place};
+use oas_num::{GDelta, Sink, SinkFault};
 use oas_ring::Point;
 
 /// The type of a list of g-deltas.
@@ -29,18 +29,7 @@ fn step(from: Point, to: Point) -> GDelta
     }
 }
 
-/// How many bytes the shortest spelling of a step has, as a g-delta of form 2.
-fn step_len(step: GDelta) -> u64
-    requires dx { nat_abs step.dx ≤ 2 ^ 61 }
-    requires dy { nat_abs step.dy ≤ 2 ^ 61 }
-    ensures len { result ≡ length (shortest_gdelta step.dx step.dy) }
-    ensures short { result ≤ 20 }
-{
-    // The form and the signs are lowest bits, and take no bytes of their own.
-    unsigned_len(4 * step.dx.unsigned_abs()) + unsigned_len(2 * step.dy.unsigned_abs())
-}
-
-/// Puts the step from one point to another, and returns its length.
+/// Puts the step from one point to another, as a g-delta of form 2 (SEMI P39, Deltas), and returns its length.
 pub fn put_step<K: Sink>(sink: &mut K, from: Point, to: Point) -> Result<u64, SinkFault>
     requires from { is_grid_point from ≡ true }
     requires to { is_grid_point to ≡ true }
@@ -48,8 +37,10 @@ pub fn put_step<K: Sink>(sink: &mut K, from: Point, to: Point) -> Result<u64, Si
     ensures short { IfOk result (λ n. n ≤ 20) }
 {
     let step = step(from, to);
-    put_gdelta(sink, step.dx, step.dy)?;
-    Ok(step_len(step))
+    // The lowest bit of the first number says that there is a second.
+    let across = put_number(sink, 2 * coded(step.dx) + 1)?;
+    let up = put_number(sink, coded(step.dy))?;
+    Ok(across + up)
 }
 
 /// Puts the steps from a point to those after it, each from the one before.

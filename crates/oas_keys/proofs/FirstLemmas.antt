@@ -4,7 +4,7 @@ use Rattle.std.proofs.lemmas.Bool.{lt-ltb, cond-true, cond-false, le-ltb}
 use Rattle.oas_keys.specs.declared.classes.Class.{Class}
 use Rattle.oas_keys.specs.Numbers.{number_in, AreClasses, unsigned_classes, signed_classes, full, single}
 use Rattle.oas_keys.specs.Reading.{joined_digits, least_with, more_with}
-use Rattle.oas_keys.proofs.ReadingLemmas.{Reads, reads}
+use Rattle.oas_keys.proofs.ReadingLemmas.{reads}
 
 -- the unsigned classes from that of two bytes on, and from those of three and four
 abbrev pub twos : List Class

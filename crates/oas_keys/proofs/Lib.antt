@@ -1,6 +1,7 @@
 pub mod DigitLemmas
 pub mod FirstLemmas
 pub mod KindLemmas
+pub mod MoreLemmas
 pub mod PartLemmas
 pub mod PutLemmas
 pub mod ReadingLemmas

@@ -33,10 +33,9 @@ pub record Passed (more : ℕ) (rest after : List ℕ) : Type 0 where
   pub long : more ≤ length after
   pub rest_is : drop more after ≡ rest
 
-pub passed : (x : ℤ) (bytes rest after : List ℕ) (byte first more : ℕ) → IsStep x → bytes ≡ signed_key x ++ rest → bytes ≡ byte ∷ after → first ≡ byte
-    → more ≡ more_with signed_classes 1 first → Passed more rest after
-passed x bytes rest after byte first more step is was same e =
+pub passed : (x : ℤ) (bytes rest after : List ℕ) (byte more : ℕ) → IsStep x → bytes ≡ signed_key x ++ rest → bytes ≡ byte ∷ after
+    → more ≡ more_with signed_classes 1 byte → Passed more rest after
+passed x bytes rest after byte more step is was e =
     let h = reads signed_classes (place x) byte bytes rest after signed_fit (placed x step) (by_place x bytes rest is) was in
-    let f : more ≡ more_with signed_classes 1 byte = e ∙ ap (more_with signed_classes 1) same in
     let long = h.long in
-    record { long = omega arith; rest_is = (λ i. drop (f i) after) ∙ h.rest_is }
+    record { long = omega (arith, e); rest_is = (λ i. drop (e i) after) ∙ h.rest_is }

@@ -1,16 +1,17 @@
 //! What is left of a key, read from the start.
 
 ghost use Rattle.std.specs.Prelude.{◌≡◌, ◌≤◌, ◌<◌, ◌∷◌, ◌++◌, ◌^◌, ◌*◌, ◌+◌, ◌+ℤ◌, [], ℕ, ℤ, pos, List, length, take, drop};
-ghost use Rattle.oas_keys.specs.Numbers.{number_in, unsigned_key, signed_key, signed_classes, place, AreClasses, firsts_of, IsStep};
-ghost use Rattle.oas_keys.specs.Reading.{joined_digits, more_with, Stand, StandSigned};
+ghost use Rattle.oas_keys.specs.Numbers.{number_in, unsigned_key, signed_key, place, AreClasses, firsts_of, IsStep};
+ghost use Rattle.oas_keys.specs.Reading.{joined_digits, Stand, StandSigned};
 
 use crate::classes::{Class, SIGNED, START, UNSIGNED};
 use crate::firsts::{Found, first_found};
+use crate::more::more_behind;
 use crate::starts::{
-    ABOVE_FIVE_BYTE, ABOVE_FOUR_BYTE, ABOVE_NINE_BYTE, ABOVE_THREE_BYTE, ABOVE_TWO_BYTE,
-    BELOW_FIVE_BYTE, BELOW_FOUR_BYTE, BELOW_THREE_BYTE, BELOW_TWO_BYTE, FIVE_BYTE, FOUR, FOUR_BYTE,
-    FOUR_EACH, LEAST_ABOVE_FOUR, LEAST_ABOVE_THREE, LEAST_ABOVE_TWO, LEAST_FOUR, LEAST_THREE,
-    LEAST_TWO, ONE_BYTE, THREE, THREE_BYTE, THREE_EACH, TWO, TWO_BYTE, TWO_EACH, ZERO_BYTE,
+    ABOVE_FIVE_BYTE, ABOVE_FOUR_BYTE, ABOVE_THREE_BYTE, ABOVE_TWO_BYTE, BELOW_FOUR_BYTE,
+    BELOW_THREE_BYTE, BELOW_TWO_BYTE, FIVE_BYTE, FOUR, FOUR_BYTE, FOUR_EACH, LEAST_ABOVE_FOUR,
+    LEAST_ABOVE_THREE, LEAST_ABOVE_TWO, LEAST_FOUR, LEAST_THREE, LEAST_TWO, ONE_BYTE, THREE,
+    THREE_BYTE, THREE_EACH, TWO, TWO_BYTE, TWO_EACH, ZERO_BYTE,
 };
 use std::marker::Model;
 
@@ -74,29 +75,6 @@ fn signed_at(at: u64) -> i64
     at as i64 - START
 }
 
-/// How many bytes come after the first of a signed number. The first bytes of short numbers are between those of longer ones,
-/// so the most frequent are found first.
-fn more_behind(first: u64) -> usize
-    ensures { first < 256 → result ≡ more_with signed_classes 1 first }
-{
-    if first >= ONE_BYTE && first < ABOVE_TWO_BYTE {
-        return 0;
-    }
-    if first >= BELOW_TWO_BYTE && first < ABOVE_THREE_BYTE {
-        return 1;
-    }
-    if first >= BELOW_THREE_BYTE && first < ABOVE_FOUR_BYTE {
-        return 2;
-    }
-    if first >= BELOW_FOUR_BYTE && first < ABOVE_FIVE_BYTE {
-        return 3;
-    }
-    if first >= BELOW_FIVE_BYTE && first < ABOVE_NINE_BYTE {
-        return 4;
-    }
-    8
-}
-
 impl<'a> Cursor<'a> {
     /// All of a key.
     pub(crate) fn of(bytes: &'a [u8]) -> Cursor<'a>
@@ -154,7 +132,9 @@ impl<'a> Cursor<'a> {
         long.number
     }
 
-    /// Takes an unsigned number. Those of one to four bytes, which most are, are taken without a search for their class.
+    /// Takes an unsigned number. Those of one to four bytes, which most are, are taken without a search for their class. It
+    /// is inlined where it is called, as `signed` is.
+    #[inline(always)]
     pub(crate) fn unsigned(&mut self) -> u64
         requires { (n : ℕ) × (rest : List ℕ) × (n < 2 ^ 64) × (self.old ≡ unsigned_key n ++ rest) }
         ensures { (n : ℕ) (rest : List ℕ) → n < 2 ^ 64 → self.old ≡ unsigned_key n ++ rest → (result ≡ n) × (self.new ≡ rest) }
@@ -271,7 +251,7 @@ impl<'a> Cursor<'a> {
         requires { (x : ℤ) × (rest : List ℕ) × IsStep x × (self.old ≡ signed_key x ++ rest) }
         ensures { (x : ℤ) (rest : List ℕ) → IsStep x → self.old ≡ signed_key x ++ rest → self.new ≡ rest }
     {
-        let more = more_behind(u64::from(self.byte()));
+        let more = more_behind(self.byte());
         let _passed = self.part(more);
     }
 }

@@ -31,6 +31,8 @@
 //!   which `number_order` goes through them.
 //! - Numbers of one to four bytes, which most are, are put and taken without a search for their class. src/starts.rt has
 //!   where their classes begin, and proofs/FirstLemmas.antt proves that a search by their first byte would find the same.
+//!   Points are counted without reading them: src/more.rt has a table of how many bytes come after each first byte, which
+//!   proofs/MoreLemmas.antt proves to be what the classes say.
 #![tactic(auto)]
 
 mod classes;
@@ -39,6 +41,7 @@ mod digits;
 mod fields;
 mod firsts;
 pub mod laws;
+mod more;
 mod named;
 mod numbers;
 mod parts;

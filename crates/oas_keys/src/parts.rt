@@ -94,6 +94,7 @@ impl<'a> Cursor<'a> {
     }
 
     /// Takes two signed numbers.
+    #[inline(always)]
     pub(crate) fn signed_pair(&mut self) -> (i64, i64)
         requires { (x : ℤ) × (y : ℤ) × (rest : List ℕ) × IsStep x × IsStep y × (self.old ≡ signed_key x ++ (signed_key y ++ rest)) }
         ensures { (x y : ℤ) (rest : List ℕ) → IsStep x → IsStep y → self.old ≡ signed_key x ++ (signed_key y ++ rest) →

@@ -48,6 +48,7 @@ fn text(mut left: Cursor<'_>) -> SpelledElement<'_>
 }
 
 /// A rectangle by its fields.
+#[inline(always)]
 fn rectangle(mut left: Cursor<'_>) -> SpelledElement<'_>
     requires { (layer : ℕ) × (datatype : ℕ) × (width : ℕ) × (height : ℕ) × (x : ℤ) × (y : ℤ) × HasFields (Rectangle layer datatype width height x y) left }
     ensures { (layer datatype width height : ℕ) (x y : ℤ) → HasFields (Rectangle layer datatype width height x y) left.entry → Spells result (Rectangle layer datatype width height x y) }
@@ -114,7 +115,9 @@ fn circle(mut left: Cursor<'_>) -> SpelledElement<'_>
     }
 }
 
-/// Reads the element that a key spells.
+/// Reads the element that a key spells. It is inlined where it is called, so that the fields need not be in memory between
+/// the key and what is done with them.
+#[inline(always)]
 pub fn read_key(key: &[u8]) -> SpelledElement<'_>
     requires { (e : OneElement) × IsSound e × (key.now ≡ key_of e) }
     ensures { (e : OneElement) → IsSound e → key.now ≡ key_of e → Spells result e }

@@ -60,8 +60,6 @@ pub(crate) const ABOVE_THREE_BYTE: u64 = ABOVE_TWO_BYTE + 40;
 pub(crate) const ABOVE_FOUR_BYTE: u64 = ABOVE_THREE_BYTE + 32;
 /// That of the least above 0 that has five.
 pub(crate) const ABOVE_FIVE_BYTE: u64 = ABOVE_FOUR_BYTE + 16;
-/// That of the least above 0 that has nine.
-pub(crate) const ABOVE_NINE_BYTE: u64 = ABOVE_FIVE_BYTE + 7;
 
 /// The least signed number of one byte.
 pub(crate) const LEAST_ONE: i64 = -31;

@@ -13,6 +13,7 @@ use crate::shown::ShownElement;
 use oas_cells::{SpelledElement, read_key};
 
 /// What is spelled, as it is shown.
+#[inline(always)]
 fn shown(spelled: SpelledElement<'_>) -> ShownElement<'_>
     requires { (e : OneElement) × Spells spelled e }
     ensures { (e : OneElement) → Spells spelled.entry e → element_of result ≡ e }
@@ -99,7 +100,9 @@ fn shown(spelled: SpelledElement<'_>) -> ShownElement<'_>
     }
 }
 
-/// The fields of an element. They are read from its key, so no memory is wanted.
+/// The fields of an element. They are read from its key, so no memory is wanted. It is inlined where it is called, as
+/// `read_key` is.
+#[inline(always)]
 pub fn show<'a>(element: &KeyedElement<'a>) -> ShownElement<'a>
     ensures element { element_of result ≡ element.now }
     ensures sound { IsSound element.now }

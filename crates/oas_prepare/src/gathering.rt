@@ -11,7 +11,7 @@ use oas_narrow::{
     BlockHead, CellStore, Dropping, Reader, Rejection, WideEnd, WideRecord, WideStart,
 };
 use oas_num::Source;
-use oas_peek::{peek_figure, peek_named, peek_rectangle};
+use oas_peek::{KindAtHand, kind_at_hand, peek_figure, peek_named, peek_rectangle};
 use std::alloc::Global;
 
 /// What came next in a file.
@@ -118,9 +118,9 @@ pub(crate) fn take_next<S: Source, C: CellStore>(
     requires { at ≡ (S.script source.old).given }
     ensures { ConsumesNext C.store flag_in_end (S.script source.old) preparation.old result (S.script source.new) preparation.new }
 {
-    match source.ahead() {
-        [20, ..] => take_rectangle(alloc, source, flag_in_end, at, preparation),
-        [17 | 19, ..] => take_named(alloc, source, flag_in_end, at, preparation),
+    match kind_at_hand(source.ahead()) {
+        KindAtHand::Rectangle => take_rectangle(alloc, source, flag_in_end, at, preparation),
+        KindAtHand::Named => take_named(alloc, source, flag_in_end, at, preparation),
         _ => take_other(alloc, source, flag_in_end, at, preparation),
     }
 }
