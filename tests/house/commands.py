@@ -8,6 +8,9 @@ from parts import parts_of
 
 GREEN = 'echo "1 passed, 0 failed"'
 NOT_RUN = "not run: no right to mount"
+# What `rt ci` says of crates that it proves, or takes from an earlier run, and edits that pass where they are given these two.
+PROVES = 'echo "rt: oas_ring proved"; echo "rt: oas_ring: its tests are proved"; echo "rt: oas_num is kept: an earlier run proved the same"'
+OF_THESE = 'read one; read other; test "$one $other" = "oas_ring oas_num"'
 # What a part or `rt ci` does in place of what it is for, and then: whether the run passes, and what is named as failed.
 CASES = [
     ("all pass", {}, True, None),
@@ -19,6 +22,7 @@ CASES = [
     ("rt ci fails", {"bin/rt": 'echo "7 passed, 1 failed"; exit 1'}, False, "rt ci"),
     ("rt ci is killed", {"bin/rt": f"{GREEN}; kill -9 $$"}, False, "rt ci"),
     ("there is no rt", {"bin/rt": None}, False, "rt ci"),
+    ("each crate's edits are tried", {"bin/rt": f"{PROVES}; {GREEN}", "tests/edits.py": f"{OF_THESE} || exit 1; {GREEN}"}, True, None),
     ("an edit is not refused", {"tests/edits.py": 'cat >/dev/null; echo "9 passed, 1 failed"; exit 1'}, False, "edits"),
     ("the edits end at once", {"tests/edits.py": "exit 1"}, False, "edits"),
     ("the library isn't built", {"tests/library": "echo NOT built; exit 1"}, False, "library"),
