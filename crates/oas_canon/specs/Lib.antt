@@ -7,6 +7,8 @@ pub use Rattle.oas_judge.specs.FileLaws
 pub use Rattle.oas_judge.specs.Files
 pub use Rattle.oas_judge.specs.FormLaws
 pub use Rattle.oas_judge.specs.Gathering
+pub use Rattle.oas_judge.specs.Given as ReadGiven
+pub use Rattle.oas_judge.specs.declared.given.Given as TheGiven
 pub use Rattle.oas_judge.specs.LayoutOf
 pub use Rattle.oas_judge.specs.Listing
 pub use Rattle.oas_judge.specs.Putting

@@ -93,10 +93,10 @@ pub use checking::is_canonical;
 pub use keys::key;
 pub use oas_elements::{Element, Extensions, Layer, Limits, Profile, Turns};
 pub use oas_judge::{
-    ByProfileOne, ByProfileTwo, Cells, CompactCell, Draft, Elements, KeptBy, KeptSource,
+    ByProfileOne, ByProfileTwo, Cells, CompactCell, Draft, Elements, Given, KeptBy, KeptSource,
     KeyedElement, Layout, Refused, ShownElement, ShownPoints, find_end_of_input, finish_layout,
-    has_canonical_bytes, put_canonical, put_listing, read_layout, show, write_canonical,
-    write_listing,
+    has_canonical_bytes, put_canonical, put_listing, read_given, read_layout, show,
+    write_canonical, write_listing,
 };
 pub use oas_num::{
     Counter, Device, Fraction, INPUT_MAX, Label, Name, NotedWriter, Outlet, ReaderSource, Reason,

@@ -62,8 +62,9 @@ mod units;
 // The crates below, for those above.
 
 pub use oas_canon::{
-    KeptSource, Layout, Limits, PROFILE, Refusal, Sink, SinkFault, SliceSource, Which, Why,
-    has_canonical_bytes, key, put_canonical, put_cell_keys, put_listing, read_layout,
+    Given, KeptSource, Layout, Limits, PROFILE, Refusal, Sink, SinkFault, SliceSource, Which, Why,
+    has_canonical_bytes, key, put_canonical, put_cell_keys, put_listing, read_given, read_layout,
+    same_files,
 };
 pub use oas_narrow::{Dropping, Extra, Place, Rejection, Report, WideWhy};
 pub use preparing::{prepare, read_prepared};

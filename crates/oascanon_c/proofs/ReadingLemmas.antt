@@ -13,21 +13,25 @@ use Rattle.oas_elements.specs.declared.profile.Profile.TheVariants.{Two}
 use Rattle.oas_elements.specs.Contents.{Contents, meaning_of}
 use Rattle.oas_elements.specs.Limits.{AreLimits}
 use Rattle.oas_elements.specs.Meaning.{Meaning, SameLayout}
-use Rattle.oas_elements.proofs.LawProofs.{symmetric, transitive}
 use Rattle.oas_prepare.specs.Acceptance.{Accepted, Means}
 use Rattle.oas_prepare.specs.FileDeciding.{IsReasoned}
-use Rattle.oas_prepare.specs.Reading.{IsRead, IsRefused, IsPlaced, ReadsLayout}
+use Rattle.oas_prepare.specs.Reading.{IsRead, IsRefused, IsPlaced, ReadsLayout, Refuses}
 use Rattle.oas_prepare.specs.Bytes.{canonical_bytes}
 use Rattle.oas_prepare.specs.Canonical.{CanonicalForm, IsCanonicalOf}
 use Rattle.oas_prepare.proofs.Held.{form_is_bytes}
 use Rattle.oas_prepare.proofs.Written.{canonical_form}
-use Rattle.oas_prepare.specs.CanonRun.{IsKeyed}
-use Rattle.oas_prepare.proofs.CanonWhole.{all_given, Cause, Bytes, End, Device, Limit, Writer, Room, cause_of, front_not, within_not}
+use Rattle.oas_prepare.specs.CanonRun.{IsCompared, IsKeyed, IsTaken as IsTakenBy}
+use Rattle.oas_prepare.specs.ReadGiven.{ReadsGiven}
+use Rattle.oas_prepare.specs.TheGiven.{Given}
+use Rattle.oas_prepare.specs.TheGiven.TheVariants.{Canonical, Layout}
+use Rattle.oas_prepare.specs.Which.{Which}
+use Rattle.oas_prepare.specs.Which.TheVariants.{First, Second}
+use Rattle.oas_prepare.proofs.CanonWhole.{has_form, all_given, Cause, Bytes, End, Device, Limit, Writer, Room, cause_of, front_not, within_not}
 use Rattle.oascanon_c.specs.declared.answers.Answer.{Answer}
 use Rattle.oascanon_c.specs.declared.answers.Answer.TheVariants.{Done, No, TooSmall, NotLimits, Refused}
 use Rattle.oascanon_c.specs.declared.bounds.Bounds.{Bounds}
 use Rattle.oascanon_c.specs.Rooms.{Puts}
-use Rattle.oascanon_c.specs.Buffers.{over, IsTaken, IsReadFrom, IsRefusedFor, Canonicalizes, PutsText, Judges, Compares, AreRead, answered}
+use Rattle.oascanon_c.specs.Buffers.{over, IsGivenOf, IsTaken, IsReadFrom, IsRefusedFor, Canonicalizes, PutsText, Judges, Compares, AreRead, answered}
 
 -- all that the source is to give
 abbrev pub whole : Limits → List ℕ → Rest
@@ -59,6 +63,11 @@ module _ {limits : Limits} {bytes : List ℕ} {new : Script} where
         by = r.by;
       }
 
+  pub taken_from : {taken : List ℕ} → IsTakenBy limits (over limits bytes) taken new → IsTaken limits bytes × (taken ≡ bytes)
+  taken_from {taken = taken} t =
+      let all = all_taken limits bytes taken new t.takes t.ended in
+      (record { accepted = subst (Accepted limits) all.0 t.accepted; fits = all.1 }, all.0)
+
   pub refused_for : (refusal : Refusal) → IsRefused limits (over limits bytes) refusal.why new → IsPlaced limits (over limits bytes) refusal new →
       IsReasoned limits (over limits bytes) refusal new → IsRefusedFor limits bytes refusal
   refused_for refusal f p r = record { left = new; refused = f; placed = p; reasoned = r; rightly = rightly } where
@@ -78,10 +87,7 @@ module _ {limits : Limits} {bytes : List ℕ} {new : Script} where
   pub keyed_from : {digest : List ℕ} → IsKeyed limits Two (over limits bytes) new digest → IsTaken limits bytes
       × ((canonical : List ℕ) × IsCanonicalOf limits Two bytes canonical × (digest ≡ sha256 canonical))
   keyed_from k =
-      let all = all_taken limits bytes k.bytes new k.taken.takes k.taken.ended in (
-        record { accepted = subst (Accepted limits) all.0 k.taken.accepted; fits = all.1 },
-        (k.canonical, subst (λ (b : List ℕ). IsCanonicalOf limits Two b k.canonical) all.0 k.is, k.hashed),
-      )
+      let t = taken_from k.taken in (t.0, (k.canonical, subst (λ (b : List ℕ). IsCanonicalOf limits Two b k.canonical) t.1 k.is, k.hashed))
 
 module _ (limits : Limits) (bytes : List ℕ) (new : Script) where
   pub outcome_read : (r : Result Contents Refusal) → ReadsLayout limits Two (over limits bytes) r new → IfOk r (IsReadFrom limits bytes)
@@ -91,6 +97,22 @@ module _ (limits : Limits) (bytes : List ℕ) (new : Script) where
   pub outcome_refused : (r : Result Contents Refusal) → ReadsLayout limits Two (over limits bytes) r new → IfErr r (IsRefusedFor limits bytes)
   outcome_refused (Ok l) r = tt
   outcome_refused (Err refusal) r = refused_for refusal r.0 r.1 r.2
+
+  given_of : (g : Given) → ReadsGiven limits Two (over limits bytes) (Ok g) new → IsGivenOf limits bytes g
+  given_of (Canonical kept) g =
+      let h = has_form {limits = limits} {profile = Two} {old = over limits bytes} {new = new} (Canonical kept) g in
+      let t = taken_from {limits = limits} {bytes = bytes} {new = new} h.taken in
+      let own : kept.items ≡ bytes = (all_taken limits bytes kept.items new g.takes g.ended).0 in
+      (t.0, own, subst (λ (b : List ℕ). IsCanonicalOf limits Two bytes b) own (subst (λ (b : List ℕ). IsCanonicalOf limits Two b kept.items) t.1 h.is))
+  given_of (Layout l) r = read_from r
+
+  pub outcome_given : (r : Result Given Refusal) → ReadsGiven limits Two (over limits bytes) r new → IfOk r (IsGivenOf limits bytes)
+  outcome_given (Ok g) r = given_of g r
+  outcome_given (Err refusal) r = tt
+
+  pub outcome_not_given : (r : Result Given Refusal) → ReadsGiven limits Two (over limits bytes) r new → IfErr r (IsRefusedFor limits bytes)
+  outcome_not_given (Ok g) r = tt
+  outcome_not_given (Err refusal) r = refused_for refusal r.0 r.1 r.2
 
 -- ---- the form of what was read
 
@@ -110,6 +132,18 @@ module _ {limits : Limits} {bytes : List ℕ} {l : Contents} (read : IsReadFrom 
   )
 
 -- ---- what is told
+
+-- of a file that is its own canonical form
+module _ (b : Bounds) {limits : Limits} (are : AreLimits limits b.elements b.weight b.input) {bytes : List ℕ} (taken : IsTaken limits bytes) (own : IsCanonicalOf limits Two bytes bytes) where
+  pub own_told : (old new : List ℕ) (a : Answer) → Puts bytes old a new → Canonicalizes b bytes old a new
+  own_told old new (Done n) p = (limits, are, (taken, (bytes, own, p)))
+  own_told old new (TooSmall n) p = (limits, are, (taken, (bytes, own, p)))
+  own_told old new (No n) p = absurd p
+  own_told old new NotLimits p = absurd p
+  own_told old new (Refused which refusal) p = absurd p
+
+  pub own_judged : Judges b bytes (answered true)
+  own_judged = (limits, are, (taken, (own.form, refl)))
 
 module _ (b : Bounds) {limits : Limits} (are : AreLimits limits b.elements b.weight b.input) {bytes : List ℕ} {l : Contents} (read : IsReadFrom limits bytes l) where
   pub form_told : (old new : List ℕ) (a : Answer) → Puts (canonical_bytes (meaning_of l)) old a new → Canonicalizes b bytes old a new
@@ -132,30 +166,26 @@ module _ (b : Bounds) {limits : Limits} (are : AreLimits limits b.elements b.wei
 
 -- ---- two files
 
-module _ {limits : Limits} {one other : List ℕ} {l k : Contents} (first : IsReadFrom limits one l) (second : IsReadFrom limits other k) where
-  abbrev are_read : AreRead limits one other
-  are_read = record {
-    taken_one = first.taken;
-    taken_other = second.taken;
-    first = first.meaning;
-    second = second.meaning;
-    means_first = first.means;
-    means_second = second.means;
-  }
+module _ (limits : Limits) (one other : List ℕ) (new last : Script) where
+  abbrev are_read : {says : Bool} → IsCompared limits Two (over limits one) new (over limits other) last says → AreRead limits one other
+  are_read c =
+      let first = taken_from c.taken_first in
+      let second = taken_from c.taken_second in
+      record {
+        taken_one = first.0;
+        taken_other = second.0;
+        first = c.one;
+        second = c.other;
+        means_first = subst (λ (b : List ℕ). Means b c.one) first.1 c.means_one;
+        means_second = subst (λ (b : List ℕ). Means b c.other) second.1 c.means_other;
+      }
 
-  -- the result for the layouts is that for the meanings
-  pub compared : (says : Bool) → (IsTrue says ↔ SameLayout l.profile (meaning_of l) (meaning_of k)) → IsTrue says ↔ SameLayout Two first.meaning second.meaning
-  compared says h = (
-    λ t.
-        let s : SameLayout Two (meaning_of l) (meaning_of k) = subst (λ (p : Profile). SameLayout p (meaning_of l) (meaning_of k)) first.by (h.0 t) in
-        transitive Two first.meaning (meaning_of l) second.meaning first.same (transitive Two (meaning_of l) (meaning_of k) second.meaning s (symmetric Two second.meaning (meaning_of k) second.same)),
-    λ s.
-        let t : SameLayout Two (meaning_of l) (meaning_of k) =
-        transitive Two (meaning_of l) first.meaning (meaning_of k) (symmetric Two first.meaning (meaning_of l) first.same)
-        (transitive Two first.meaning second.meaning (meaning_of k) s second.same) in
-        h.1 (subst (λ (p : Profile). SameLayout p (meaning_of l) (meaning_of k)) (sym first.by) t),
-  )
+  pub compares : (b : Bounds) → AreLimits limits b.elements b.weight b.input → (says : Bool) → IsCompared limits Two (over limits one) new (over limits other) last says →
+      Compares b one other (answered says)
+  compares b are true c = ((limits, are, (are_read c, c.answer.0 refl)), refl)
+  compares b are false c = ((limits, are, (are_read c, λ s. let no = c.answer.1 s in cc)), refl)
 
-  pub compares : (b : Bounds) → AreLimits limits b.elements b.weight b.input → (says : Bool) → (IsTrue says ↔ SameLayout l.profile (meaning_of l) (meaning_of k)) → Compares b one other (answered says)
-  compares b are true h = ((limits, are, (are_read, (compared true h).0 refl)), refl)
-  compares b are false h = ((limits, are, (are_read, λ s. let no = (compared false h).1 s in cc)), refl)
+  pub not_compared : (b : Bounds) → AreLimits limits b.elements b.weight b.input → (which : Which) (refusal : Refusal) → (which ≡ First → Refuses limits (over limits one) refusal new) →
+      (which ≡ Second → ((bytes : List ℕ) × IsTakenBy limits (over limits one) bytes new) × Refuses limits (over limits other) refusal last) → Compares b one other (Refused which refusal)
+  not_compared b are First refusal first second = let r = first refl in (limits, are, refused_for refusal r.0 r.1 r.2)
+  not_compared b are Second refusal first second = let r = second refl in (limits, are, ((taken_from r.0.1).0, refused_for refusal r.1.0 r.1.1 r.1.2))

@@ -15,6 +15,8 @@ use Rattle.oas_prepare.specs.Acceptance.{Accepted, Means}
 use Rattle.oas_prepare.specs.FileDeciding.{IsReasoned}
 use Rattle.oas_prepare.specs.Reading.{IsRefused, IsPlaced}
 use Rattle.oas_prepare.specs.Canonical.{CanonicalForm, IsCanonicalOf}
+use Rattle.oas_prepare.specs.TheGiven.{Given}
+use Rattle.oas_prepare.specs.TheGiven.TheVariants.{Canonical, Layout}
 use Rattle.oas_prepare.specs.Which.TheVariants.{First, Second}
 use Rattle.oascanon_c.specs.declared.answers.Answer.{Answer}
 use Rattle.oascanon_c.specs.declared.answers.Answer.TheVariants.{Done, No, TooSmall, NotLimits, Refused}
@@ -48,6 +50,11 @@ pub record IsReadFrom (limits : Limits) (bytes : List ℕ) (l : Contents) : Type
   pub layout : IsLayout l
   pub within : l.limits ≡ limits
   pub by : l.profile ≡ Two
+
+-- what is read of bytes: these themselves, which are their own canonical form, or their layout
+abbrev pub IsGivenOf : Limits → List ℕ → Given → Type 0
+IsGivenOf limits bytes (Canonical kept) = IsTaken limits bytes × (kept.items ≡ bytes) × IsCanonicalOf limits Two bytes bytes
+IsGivenOf limits bytes (Layout l) = IsReadFrom limits bytes l
 
 -- the limits that the three numbers are
 abbrev pub Within : Bounds → (Limits → Type 0) → Type 0

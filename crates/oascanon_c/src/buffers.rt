@@ -2,15 +2,15 @@
 ghost use Rattle.std.specs.Prelude.{◌≡◌, IfOk, IfErr};
 ghost use Rattle.oas_elements.specs.Contents.{IsLayout, meaning_of};
 ghost use Rattle.oas_prepare.specs.Bytes.{canonical_bytes};
-ghost use Rattle.oascanon_c.specs.Buffers.{answered, Canonicalizes, Compares, IsReadFrom, IsRefusedFor, Judges, Keys};
+ghost use Rattle.oascanon_c.specs.Buffers.{answered, Canonicalizes, Compares, IsGivenOf, IsReadFrom, IsRefusedFor, Judges, Keys};
 ghost use Rattle.oascanon_c.specs.Rooms.{Puts};
 
 use crate::answers::Answer;
 use crate::bounds::Bounds;
 use crate::filling::Filler;
 use oas_prepare::{
-    Layout, Limits, PROFILE, Refusal, SliceSource, Which, has_canonical_bytes, key as file_key,
-    put_canonical, read_layout,
+    Given, Layout, Limits, PROFILE, Refusal, Sink, SliceSource, Which, has_canonical_bytes,
+    key as file_key, put_canonical, read_given, read_layout, same_files,
 };
 use std::alloc::Global;
 
@@ -21,6 +21,15 @@ pub(crate) fn read(alloc: Global, bytes: &[u8], limits: Limits) -> Result<Layout
 {
     let mut source = SliceSource::new(bytes, limits.input());
     read_layout(alloc, &mut source, limits, PROFILE)
+}
+
+/// The bytes where these are a canonical file, and otherwise the layout that they mean.
+fn read_judged(alloc: Global, bytes: &[u8], limits: Limits) -> Result<Given, Refusal>
+    ensures read { IfOk result (IsGivenOf limits bytes.now) }
+    ensures refused { IfErr result (IsRefusedFor limits bytes.now) }
+{
+    let mut source = SliceSource::new(bytes, limits.input());
+    read_given(alloc, &mut source, limits, PROFILE)
 }
 
 /// What is said of a question's answer.
@@ -40,6 +49,15 @@ pub(crate) fn put_form(layout: &Layout, room: &mut [u8]) -> Answer
     filler.answer()
 }
 
+/// Puts a file's bytes into the room, as far as they fit.
+fn put_file(bytes: &[u8], room: &mut [u8]) -> Answer
+    ensures { Puts bytes.now room.old result room.new }
+{
+    let mut filler = Filler::new(room);
+    let _ = filler.put_all(bytes);
+    filler.answer()
+}
+
 /// Puts the canonical file of what bytes mean into the room.
 pub(crate) fn canonicalize(alloc: Global, bytes: &[u8], bounds: &Bounds, room: &mut [u8]) -> Answer
     ensures { Canonicalizes bounds.now bytes.now room.old result room.new }
@@ -47,8 +65,9 @@ pub(crate) fn canonicalize(alloc: Global, bytes: &[u8], bounds: &Bounds, room: &
     let Some(limits) = bounds.limits() else {
         return Answer::NotLimits;
     };
-    match read(alloc, bytes, limits) {
-        Ok(layout) => put_form(&layout, room),
+    match read_judged(alloc, bytes, limits) {
+        Ok(Given::Canonical(kept)) => put_file(&kept, room),
+        Ok(Given::Layout(layout)) => put_form(&layout, room),
         Err(refusal) => Answer::Refused(Which::First, refusal),
     }
 }
@@ -60,8 +79,9 @@ pub(crate) fn is_canonical(alloc: Global, bytes: &[u8], bounds: &Bounds) -> Answ
     let Some(limits) = bounds.limits() else {
         return Answer::NotLimits;
     };
-    match read(alloc, bytes, limits) {
-        Ok(layout) => yes_or_no(has_canonical_bytes(&layout, bytes)),
+    match read_judged(alloc, bytes, limits) {
+        Ok(Given::Canonical(_)) => yes_or_no(true),
+        Ok(Given::Layout(layout)) => yes_or_no(has_canonical_bytes(&layout, bytes)),
         Err(refusal) => Answer::Refused(Which::First, refusal),
     }
 }
@@ -90,12 +110,10 @@ pub(crate) fn same(alloc: Global, one: &[u8], other: &[u8], bounds: &Bounds) -> 
     let Some(limits) = bounds.limits() else {
         return Answer::NotLimits;
     };
-    let first = match read(alloc, one, limits) {
-        Ok(layout) => layout,
-        Err(refusal) => return Answer::Refused(Which::First, refusal),
-    };
-    match read(alloc, other, limits) {
-        Ok(second) => yes_or_no(first.same(&second)),
-        Err(refusal) => Answer::Refused(Which::Second, refusal),
+    let mut first = SliceSource::new(one, limits.input());
+    let mut second = SliceSource::new(other, limits.input());
+    match same_files(alloc, &mut first, &mut second, limits) {
+        Ok(same) => yes_or_no(same),
+        Err((which, refusal)) => Answer::Refused(which, refusal),
     }
 }

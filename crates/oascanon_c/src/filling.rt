@@ -61,4 +61,17 @@ impl Sink for Filler<'_> {
         self.given = self.given.saturating_add(1);
         Ok(())
     }
+
+    /// Bytes for which the room has place are copied at once.
+    #[inline]
+    fn put_all(&mut self, bytes: &[u8]) -> Result<(), SinkFault> {
+        if self.filled < self.room.len() {
+            let fits = bytes.len().min(self.room.len() - self.filled);
+            let end = self.filled + fits;
+            self.room[self.filled..end].copy_from_slice(&bytes[..fits]);
+            self.filled = end;
+        }
+        self.given = self.given.saturating_add(bytes.len() as u64);
+        Ok(())
+    }
 }
