@@ -70,7 +70,7 @@ fn each_row(rt: HostRuntime) {
             count = count.saturating_add(1);
         }
     }
-    assert!(rt; count == 49);
+    assert!(rt; count == 54);
 }
 
 /// The layout of a file, kept by profile two, and whether the file is canonical by profile one, if at most this many bytes

@@ -184,6 +184,10 @@ impl<P: KeptBy> CellStore for CompactCell<P> {
 
     ghost alike = { kept_in_any_order P.profile };
 
+    ghost COUNTS = { false };
+
+    const COUNTS: bool = false;
+
     fn begin(alloc: Global, cell: CellRef) -> CompactCell<P> {
         CompactCell {
             cell,
@@ -235,6 +239,8 @@ impl<P: KeptBy> CellStore for CompactCell<P> {
             } => self.draw_text(string, *textlayer, *texttype, *x, *y),
         }
     }
+
+    fn draw_series(&mut self, _count: u64, _weight: u64) {}
 }
 
 impl<P: KeptBy> Weighed for CompactCell<P> {

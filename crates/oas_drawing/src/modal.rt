@@ -110,6 +110,14 @@ impl ModalVariables {
         self.relative = relative;
     }
 
+    /// Whether coordinates are relative.
+    #[inline(always)]
+    pub fn is_relative(&self) -> bool
+        ensures { result ≡ self.now.relative }
+    {
+        self.relative
+    }
+
     /// What all kinds of geometry set. A repetition is taken from the record.
     #[inline(always)]
     pub(crate) fn draw(&mut self, layer: Option<u64>, datatype: Option<u64>, spot: &mut Spot)

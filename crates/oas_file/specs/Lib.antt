@@ -11,6 +11,7 @@ pub use Rattle.oas_reader.specs.Names
 pub use Rattle.oas_reader.specs.Position
 pub use Rattle.oas_reader.specs.Reasons
 pub use Rattle.oas_reader.specs.References
+pub use Rattle.oas_reader.specs.Series
 pub use Rattle.oas_reader.specs.Standing
 pub use Rattle.oas_reader.specs.Stands
 pub use Rattle.oas_reader.specs.Stores

@@ -77,6 +77,8 @@ mod reading;
 mod records;
 
 // The crates below, for those above.
-pub use oas_reader::{CellStore, CountedCell, NameTable, Reader, Taken, accept_cells, cell_meant};
+pub use oas_reader::{
+    CellStore, CountedCell, NameTable, Reader, Room, Taken, accept_cells, cell_meant,
+};
 pub use reading::{find_end_of_input, take_records};
 pub use records::{Found, find_record, take_record};

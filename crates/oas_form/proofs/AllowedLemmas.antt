@@ -64,7 +64,7 @@ pub record Goes (limits : Limits) (before : List Record) (count weight : ℕ) : 
   pub weight_is : weight_so_far_of before ≡ weight
 
 -- one more element, in a cell
-open_stays : (e : Element) (before : List Record) → is_in_cell (element_record e ∷ before) ≡ is_in_cell before
+pub open_stays : (e : Element) (before : List Record) → is_in_cell (element_record e ∷ before) ≡ is_in_cell before
 open_stays (Placement name x y turns flip) before = refl
 open_stays e before = refl
 
@@ -83,7 +83,7 @@ element_goes limits e before count weight g absolute opened points inside few li
       weight_is = omega (arith, weighs e before, g.weight_is, ap (λ (ds : List Drawn). sum_by weight_so_far ds) drawn);
     }
 
-elements_go : (limits : Limits) (es : List Element) (before : List Record) (count weight : ℕ) → Goes limits before count weight → IsAbsolute before → is_in_cell before ≡ true →
+pub elements_go : (limits : Limits) (es : List Element) (before : List Record) (count weight : ℕ) → Goes limits before count weight → IsAbsolute before → is_in_cell before ≡ true →
     AllByRecursion (λ e. lacks_points e ≡ false) es → AllByRecursion (λ e. fits_grid e ≡ true) es → count + length es ≤ limits.elements → weight + sum_by weight_of es ≤ limits.weight
     → Goes limits (onto (map element_record es) before) (count + length es) (weight + sum_by weight_of es)
 elements_go limits [] before count weight g absolute opened points inside few light = record { allowed = g.allowed; count_is = omega (arith, g.count_is); weight_is = omega (arith, g.weight_is) }

@@ -19,6 +19,7 @@ pub mod DrawnFits
 pub mod DrawsSound
 pub mod DrawnSound
 pub mod FieldSpelling
+pub mod ElementSeries
 pub mod ElementSpelling
 pub mod Existence
 pub mod FieldsFit

@@ -78,7 +78,7 @@ abbrev pub drawn_cell : List ℕ × List Element → DrawnCell
 drawn_cell c = (cell.Name c.0, map Named c.1)
 
 -- one element more, in the last cell
-drawn_in_last : (e : Element) (before : List Record) → cells_drawn elements_at (element_record e ∷ before) ≡ in_last (elements_at (element_record e) before) (cells_drawn elements_at before)
+pub drawn_in_last : (e : Element) (before : List Record) → cells_drawn elements_at (element_record e ∷ before) ≡ in_last (elements_at (element_record e) before) (cells_drawn elements_at before)
 drawn_in_last (Placement name x y turns flip) before = refl
 drawn_in_last e before = refl
 

@@ -13,6 +13,7 @@ pub use Rattle.oas_file.specs.ReaderTaken
 pub use Rattle.oas_file.specs.Reading
 pub use Rattle.oas_file.specs.Reasons
 pub use Rattle.oas_file.specs.References
+pub use Rattle.oas_file.specs.Series
 pub use Rattle.oas_file.specs.Standing
 pub use Rattle.oas_file.specs.Stands
 pub use Rattle.oas_file.specs.Stores

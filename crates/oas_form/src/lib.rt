@@ -114,8 +114,8 @@ pub use elements::{put_circle, put_placement, put_rectangle, put_text};
 pub use frames::{put_end, put_head, put_opening};
 pub use judging::{FormJudge, is_end, is_head};
 pub use oas_file::{
-    CellStore, CountedCell, NameTable, Reader, Taken, accept_cells, cell_meant, find_end_of_input,
-    find_record, laws as file_laws, take_record, take_records,
+    CellStore, CountedCell, NameTable, Reader, Room, Taken, accept_cells, cell_meant,
+    find_end_of_input, find_record, laws as file_laws, take_record, take_records,
 };
 pub use parts::{put_bytes, put_coordinate, put_number, put_place};
 pub use point_lists::put_step;

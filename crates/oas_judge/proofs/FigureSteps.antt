@@ -141,7 +141,7 @@ path_so layer datatype half_width start end points (Some x) (Some y) (Some repet
 
 -- ---- for either
 
-figure_is : (r : Record) (e : Element) → HasPlainList r → own_drawn r ≡ Some (Named e) → element_record e ≡ r
+pub figure_is : (r : Record) (e : Element) → HasPlainList r → own_drawn r ≡ Some (Named e) → element_record e ≡ r
 figure_is (record_of.Polygon p) e plain is = polygon_so p.layer p.datatype p.points p.spot.x p.spot.y p.spot.repetition e plain is
 figure_is (record_of.Path p) e plain is =
     path_so p.layer p.datatype p.half_width (start_given p.extensions) (end_given p.extensions) p.points p.spot.x p.spot.y p.spot.repetition p.extensions e refl refl plain is

@@ -2,8 +2,10 @@
 use Rattle.std.proofs.Common.{◌≡◌, ℕ, ◌+◌, ◌-◌, ◌<◌, ◌≤◌, Bool, List, [], ◌∷◌, ◌++◌, length, take, drop, Option, Some, None, refl, sym, ap, subst, ◌∙◌, append_assoc, arith}
 use Rattle.std.proofs.lemmas.List.{length-append, length-drop, take-append-drop, drop-drop}
 use Rattle.std.proofs.Math.Seq.{take-append_seam}
+use Rattle.std.specs.Prelude.{IfSome}
 use Rattle.oas_num.specs.Script.{Script, Rest, Gave, Consumed}
-use Rattle.oas_judge.specs.Sources.{with_left, joined_script, hand_of}
+use Rattle.oas_judge.specs.Attempts.{GivesAgain}
+use Rattle.oas_judge.specs.Sources.{with_left, joined_script, limit_with, hand_of}
 
 -- what comes before the last of them
 pub before : (all front last : List ℕ) → all ≡ front ++ last → take (length all - length last) all ≡ front
@@ -44,3 +46,19 @@ skips_left start now kept source at count asked limit takes some =
     let gives = gives_left now front (take count left) (drop count left) asked limit (history ∙ ap (λ (l : List ℕ). front ++ l) (sym there)) (subst (λ (l : List ℕ). length l ≤ now.given) (sym there) few) in
     let hand : hand_of left source ≡ left = hand_left left source (omega (arith, length-drop at kept, some)) in
     rw (hand, ← drop-drop count at kept) (subst (λ (l : List ℕ). Consumed (joined_script now l asked limit) (take count left) (joined_script now (drop count left) asked limit)) there gives)
+
+-- ---- it gives all again
+
+gave_rest : (kept : List ℕ) (old new : Option Rest) → Gave old kept new → IfSome old (λ rest. with_left kept new ≡ Some rest)
+gave_rest kept None new gave = tt
+gave_rest kept (Some old) None gave = absurd gave
+gave_rest kept (Some old) (Some new) gave = (λ i. Some (record { bytes = sym gave.0 i; goes_on = gave.1 i }))
+
+pub gives_again : (start now : Script) (kept : List ℕ) (asked : Bool) → Consumed start kept now → GivesAgain start (joined_script now kept asked (limit_with start kept))
+gives_again start now kept asked takes = record {
+  history = before now.history start.history kept takes.history;
+  given = omega (arith, takes.given);
+  limit = omega arith;
+  reliable = takes.reliable;
+  rest = gave_rest kept start.rest now.rest takes.rest;
+}

@@ -12,3 +12,6 @@ pub mod NamedSteps
 mod FigureSteps
 mod JoinedLemmas
 mod GivenLemmas
+mod SeriesItems
+mod SeriesSteps
+mod SeriesParts

@@ -46,11 +46,11 @@ each_read : (flag : Bool) (entries : List Entry) → AllByRecursion (λ e. inner
 each_read flag [] each = refl
 each_read flag (e ∷ es) each = (e.1, entry_bytes es, each.0, each_read flag es each.1, refl)
 
-records_with : (entries : List Entry) (e : Entry) → entry_records (entries ++ e ∷ []) ≡ entry_records entries ++ e.0 ∷ []
+pub records_with : (entries : List Entry) (e : Entry) → entry_records (entries ++ e ∷ []) ≡ entry_records entries ++ e.0 ∷ []
 records_with [] e = refl
 records_with (f ∷ fs) e = ap (λ (rs : List Record). f.0 ∷ rs) (records_with fs e)
 
-bytes_with : (entries : List Entry) (e : Entry) → entry_bytes (entries ++ e ∷ []) ≡ entry_bytes entries ++ e.1
+pub bytes_with : (entries : List Entry) (e : Entry) → entry_bytes (entries ++ e ∷ []) ≡ entry_bytes entries ++ e.1
 bytes_with [] e = append-nil e.1
 bytes_with (f ∷ fs) e = ap (λ (b : List ℕ). f.1 ++ b) (bytes_with fs e) ∙ sym (append_assoc f.1 (entry_bytes fs) e.1)
 

@@ -20,4 +20,6 @@ pub mod Judged
 pub mod Peeked
 pub mod Sources
 pub mod Parts
+pub mod Series
 pub mod Given
+pub mod Attempts

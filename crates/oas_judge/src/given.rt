@@ -1,5 +1,6 @@
 //! A file by its bytes where these are canonical, and by its layout otherwise.
-ghost use Rattle.std.specs.Prelude.{◌≡◌};
+ghost use Rattle.std.specs.Prelude.{◌≡◌, IfSome};
+ghost use Rattle.oas_num.specs.Script.{Consumed};
 ghost use Rattle.oas_judge.specs.Given.{ReadsGiven, Judges};
 
 use crate::joined::read_joined;
@@ -23,11 +24,11 @@ pub enum Given {
 
 /// What was judged of an accepted file or of its first part.
 #[derive(Clone, Copy)]
-struct Verdict {
+pub(crate) struct Verdict {
     /// Whether it is a whole file, and canonical.
-    canonical: bool,
+    pub(crate) canonical: bool,
     /// The offset of the record that was read last, or of END.
-    at: u64,
+    pub(crate) at: u64,
 }
 
 /// Accepts and judges a file up to its end, or up to a record at which it isn't known to be canonical.
@@ -54,6 +55,26 @@ fn judge_front<S: Source>(
     Ok(Verdict { canonical, at })
 }
 
+/// What was judged of a source, the bytes that were taken of it, where there was memory for all of them, and the source. It hands
+/// the borrow back, so that its lender knows it as its own.
+pub(crate) fn judge_kept<'a, S: Source, K: Start>(
+    alloc: Global,
+    source: &'a mut S,
+    limits: Limits,
+    profile: Profile,
+) -> (Result<Verdict, Refusal>, Option<Vec<u8>>, &'a mut S)
+    requires named { source.ghost_name ≡ K.name }
+    requires starts { S.script source.old ≡ K.script }
+    ensures same { result.2.ghost_name ≡ K.name }
+    ensures judged { Judges limits profile K.script result.0 (S.script result.2.now) }
+    ensures kept { IfSome result.1 (λ bytes. Consumed K.script bytes.items (S.script result.2.now)) }
+{
+    let mut keeping: KeptSource<'a, S, K> = KeptSource::new(Vec::new(alloc), source);
+    let judged = judge_front(alloc, &mut keeping, limits, profile);
+    let (source, kept) = keeping.finish();
+    (judged, kept, source)
+}
+
 /// The same as [`read_given`], for the source that is named. It hands the borrow back, so that its lender knows it as its own.
 fn read_given_named<'a, S: Source, K: Start>(
     alloc: Global,
@@ -66,9 +87,7 @@ fn read_given_named<'a, S: Source, K: Start>(
     ensures same { result.1.ghost_name ≡ source.entry.ghost_name }
     ensures read { ReadsGiven limits profile K.script result.0 (S.script result.1.now) }
 {
-    let mut keeping: KeptSource<'a, S, K> = KeptSource::new(Vec::new(alloc), source);
-    let judged = judge_front(alloc, &mut keeping, limits, profile);
-    let (source, kept) = keeping.finish();
+    let (judged, kept, source) = judge_kept::<S, K>(alloc, source, limits, profile);
     let verdict = match judged {
         Ok(verdict) => verdict,
         Err(refusal) => return (Err(refusal), source),

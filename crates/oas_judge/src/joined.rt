@@ -1,8 +1,9 @@
 //! Bytes that were kept of a source, and then what it still gives.
-ghost use Rattle.std.specs.Prelude.{◌≡◌, drop};
+ghost use Rattle.std.specs.Prelude.{◌≡◌, false, drop};
 ghost use Rattle.oas_num.specs.Script.{Consumed};
 ghost use Rattle.oas_judge.specs.Reading.{ReadsLayout};
 ghost use Rattle.oas_judge.specs.Parts.{MayWant};
+ghost use Rattle.oas_judge.specs.Attempts.{GivesAgain};
 ghost use Rattle.oas_judge.specs.Sources.{IsJoined, IsJoined-prop, joined_script, limit_with, hand_of};
 
 use oas_elements::{Limits, Profile};
@@ -12,7 +13,7 @@ use std::alloc::Global;
 use std::marker::{Brand, PhantomData};
 
 /// Which bytes were kept, of which source, and where it was before the first of them. Each use chooses it.
-pub(crate) trait Front {
+pub trait Front {
     ghost use Rattle.std.specs.Prelude.{ℕ, List};
     ghost use Rattle.oas_num.specs.Script.{Script};
     ghost use base.Fml.{GName};
@@ -37,7 +38,7 @@ impl Front for Brand {
 
 /// Gives the bytes that were kept of a borrowed source once more, and then what it still gives.
 #[derive(Drop)]
-struct JoinedSource<'a, 'b, S: Source, K: Front> {
+pub struct JoinedSource<'a, 'b, S: Source, K: Front> {
     kept: &'b [u8],
     /// How many of these were given.
     at: usize,
@@ -46,6 +47,34 @@ struct JoinedSource<'a, 'b, S: Source, K: Front> {
     asked: bool,
     start: PhantomData<K>,
     ghost joined: { IsJoined K.script K.kept K.name source.ghost_name (S.script source.now) kept.now at asked } by { IsJoined-prop K.script K.kept K.name source.ghost_name (S.script source.now) kept.now at asked },
+}
+
+impl<'a, 'b, S: Source, K: Front> JoinedSource<'a, 'b, S, K> {
+    /// A source that gives these bytes, which were kept of another one, and then what that still gives.
+    pub fn new(kept: &'b [u8], source: &'a mut S) -> Self
+        requires named { source.ghost_name ≡ K.name }
+        requires kept { kept.now ≡ K.kept }
+        requires gave { Consumed K.script kept.now (S.script source.old) }
+        ensures gives { joined_script (S.script result.source.now) (drop result.at result.kept.now) result.asked (limit_with K.script result.kept.now)
+            ≡ joined_script (S.script source.old) kept.now false (limit_with K.script kept.now) }
+        ensures again { GivesAgain K.script (joined_script (S.script result.source.now) (drop result.at result.kept.now) result.asked (limit_with K.script result.kept.now)) }
+    {
+        JoinedSource {
+            kept,
+            at: 0,
+            source,
+            asked: false,
+            start: PhantomData,
+        }
+    }
+
+    /// The source.
+    pub fn finish(self) -> &'a mut S
+        ensures same { result.ghost_name ≡ K.name }
+        ensures now { result.now ≡ self.entry.source.now }
+    {
+        self.source
+    }
 }
 
 impl<'a, 'b, S: Source, K: Front> Source for JoinedSource<'a, 'b, S, K> {
@@ -106,13 +135,7 @@ pub(crate) fn read_joined<'a, S: Source, K: Front>(
     ensures same { result.1.ghost_name ≡ source.entry.ghost_name }
     ensures read { ReadsLayout limits profile K.script result.0 (S.script result.1.now) }
 {
-    let mut joined: JoinedSource<'a, '_, S, K> = JoinedSource {
-        kept,
-        at: 0,
-        source,
-        asked: false,
-        start: PhantomData,
-    };
+    let mut joined: JoinedSource<'a, '_, S, K> = JoinedSource::new(kept, source);
     let read = read_layout(alloc, &mut joined, limits, profile);
     let is_left = joined.at < kept.len();
     let source = joined.source;

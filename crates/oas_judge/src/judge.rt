@@ -1,11 +1,13 @@
 //! The judge of a file, which sees it part by part.
-ghost use Rattle.std.specs.Prelude.{◌≡◌, ◌↔◌, IsTrue, true, false, take, ℕ, List, is_some, IfSome, IfOk, IfErr};
+ghost use Rattle.std.specs.Prelude.{◌≡◌, ◌↔◌, ◌≤◌, IsTrue, true, false, take, ℕ, List, None, is_some, IfSome, IfOk, IfErr};
 ghost use Rattle.oas_elements.specs.declared.limits.Limits.{Limits};
 ghost use Rattle.oas_writing.specs.Reading.{Refuses};
 ghost use Rattle.oas_judge.specs.Candidates.{IsCandidate, IsFitting};
 ghost use Rattle.oas_judge.specs.FileJudges.{holds, BeginsJudging, GoesOn, IsFront, GoesOnTaking, Decides};
 ghost use Rattle.oas_judge.specs.declared.judge.FileJudge.{FileJudge as TheJudge};
 ghost use Rattle.oas_judge.specs.Peeked.{IsSpelledBy};
+ghost use Rattle.oas_judge.specs.Series.{SeesElement};
+ghost use Rattle.oas_elements.specs.Weight.{weight_of};
 ghost use Rattle.oas_peek.specs.Peeked.{IsPeeked};
 ghost use Rattle.oas_peek.specs.Named.{IsPeekedNamed, HasValidName, named_record};
 ghost use Rattle.oas_peek.specs.Figures.{IsPeekedFigure};
@@ -156,6 +158,55 @@ impl FileJudge {
         candidate_of(alloc, self.profile, next).ok()
     }
 
+    /// Judges a rectangle that is at hand, if it is accepted, where its bytes are the canonical ones. Otherwise it returns false,
+    /// and does nothing.
+    #[inline(always)]
+    pub(crate) fn see_rectangle(&mut self, ahead: &PeekedRectangle) -> bool
+        requires { IsTrue (holds self.old) }
+        ensures no { result ≡ false → self.new ≡ self.old }
+        ensures yes { result ≡ true → (all : List ℕ) → IsPeeked all ahead.now → SeesElement (take ahead.now.length all) self.old (OneRectangle ahead.now.rectangle) self.new }
+    {
+        let Some(element) = spelled_element(ahead) else {
+            return false;
+        };
+        self.form.draw_spelled(element);
+        true
+    }
+
+    /// The same of a placement or a text.
+    #[inline(always)]
+    pub(crate) fn see_named(&mut self, ahead: &PeekedNamed<'_>) -> bool
+        requires named { HasValidName ahead.now.element }
+        requires told { IsTrue (holds self.old) }
+        ensures no { result ≡ false → self.new ≡ self.old }
+        ensures yes { result ≡ true → (all : List ℕ) → IsPeekedNamed all ahead.now → SeesElement (take ahead.now.length all) self.old (named_record ahead.now.element) self.new }
+    {
+        ahead.shortest && draw_named(&mut self.form, &ahead.element)
+    }
+
+    /// The same of a polygon or a path that weighs at most so much. It returns the weight; None, and does nothing, also if out
+    /// of memory.
+    #[inline(always)]
+    pub(crate) fn see_figure(
+        &mut self,
+        alloc: Global,
+        ahead: &PeekedFigure,
+        most: u64,
+    ) -> Option<u64>
+        requires { IsTrue (holds self.old) }
+        ensures none { result ≡ None → self.new ≡ self.old }
+        ensures light { IfSome result (λ weight. weight ≤ most) }
+        ensures some { IfSome result (λ weight. (all : List ℕ) → IsPeekedFigure all ahead.now → (s : SeesElement (take ahead.now.length all) self.old ahead.now.record self.new) × (weight_of s.element ≡ weight)) }
+    {
+        let element = spelled_figure(alloc, self.profile, ahead)?;
+        let weight = element.weight();
+        if weight > most {
+            return None;
+        }
+        self.form.draw_spelled(element);
+        Some(weight)
+    }
+
     /// Judges a rectangle that is at hand, if it is accepted. It returns false, and does nothing, where it would have to
     /// compare the bytes with the canonical ones.
     #[inline(always)]
@@ -166,11 +217,7 @@ impl FileJudge {
         if !self.holds() {
             return true;
         }
-        let Some(element) = spelled_element(ahead) else {
-            return false;
-        };
-        self.form.draw_spelled(element);
-        true
+        self.see_rectangle(ahead)
     }
 
     /// Judges a placement or a text that is at hand, if it is accepted. It returns false, and does nothing, where it would
@@ -184,7 +231,7 @@ impl FileJudge {
         if !self.holds() {
             return true;
         }
-        ahead.shortest && draw_named(&mut self.form, &ahead.element)
+        self.see_named(ahead)
     }
 
     /// Judges a polygon or a path that is at hand, if it is accepted. It returns false, and does nothing, where it would have

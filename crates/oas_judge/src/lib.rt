@@ -10,6 +10,9 @@
 //!   specs/Kept.antt), at the offset of the current part (`HasNoMemory` of oas_file).
 //! - [`read_given`] returns the bytes of a file where these are a canonical form by the profile, and otherwise its layout
 //!   (`ReadsGiven`, specs/Given.antt). It refuses just as `read_layout` does.
+//! - [`read_canonical`] returns the bytes of a canonical file too, and otherwise those that were taken (`ReadsCanonical`,
+//!   specs/Attempts.antt). It refuses nothing: these bytes are for another reader, by a [`JoinedSource`], which gives bytes
+//!   that were kept of a source once more, and then what that still gives (`GivesAgain`).
 //! - [`KeptSource`] gives what another source gives, and keeps it: the bytes that were taken since it was made, or from an
 //!   offset on, unless there was no memory for them.
 //!
@@ -38,7 +41,12 @@
 //!   an element of its kind (src/named.rt), or a polygon or a path that the profile keeps unchanged (src/figures.rt;
 //!   proofs/FigureSteps.antt: the steps between the vertices of a plain list are that list). Every other record is found by
 //!   `find_record` of oas_file, and compared.
-//! - src/parts.rt, specs/Parts.antt: the loop over the parts of a file, for any stores. A part that can't be judged at hand,
+//! - src/series.rt, gathering.rt, specs/Series.antt: a series, which is elements of one kind at hand one after another, each spelled in
+//!   the shortest style. The judge sees them one by one, while the reader, where it keeps no element, takes them at once at the
+//!   end, and the source skips once. A series ends before any record that isn't like that, or for which there is no room, so every
+//!   refusal but one is found by the usual way. The one is out of memory for the last name of a series: it is at that record.
+//! - src/parts.rt, specs/Parts.antt: the loops over the parts of a file, for any stores: by series as long as the file may be
+//!   canonical, and then by parts alone. A part that can't be judged at hand,
 //!   mostly since what is at hand ends within it, is read from a source that keeps its bytes; so are END and the head of a
 //!   file. A try at hand reads no byte after the record, and no record is tried twice. So however little a source has at hand,
 //!   the tries read no more bytes than the file has.
@@ -58,15 +66,19 @@
 //! their records, and that the judge represents them (`IsJudging`, specs/FileJudges.antt). A step of the judge is one of
 //! oas_form's laws (`judge_represents`). In a file that is canonical so far coordinates are absolute, so a record draws what it
 //! gives (proofs/JudgeSteps.antt). A record that matches is a CELL by its name or gives an element in its kept form
-//! (`right_next`, proofs/RightRecords.antt), so one for which neither holds fails. A judge that has failed stays failed
+//! (`right_next`, proofs/RightRecords.antt), so one for which neither holds fails. A series is a list of such elements
+//! (`EndsSeries`, specs/Series.antt; proofs/SeriesItems.antt): the canonical records of elements of one kind are what the reader takes
+//! at once (`element_series`, proofs/ElementSeries.antt of oas_form), so the entries grow by all of them (proofs/SeriesSteps.antt). A judge that has failed stays failed
 //! (`stays_failed`). At the end the entries are the whole file, which by oas_form's `BytesJudge` is a canonical form exactly
 //! if the judge holds (proofs/FileLemmas.antt). The layout beside that result is that of the same bytes, since `finish_layout` of
 //! oas_layout returns the layout of whatever records the reader represents (`read_judged`, in the same file).
 #![tactic(auto)]
 
+mod attempts;
 mod candidates;
 mod checking;
 mod figures;
+mod gathering;
 mod given;
 mod joined;
 mod judge;
@@ -75,10 +87,13 @@ mod named;
 mod own;
 mod parts;
 mod records;
+mod series;
 
 // The crates below, for those above.
+pub use attempts::{Attempt, read_canonical};
 pub use checking::{is_canonical, read_judged};
 pub use given::{Given, read_given};
+pub use joined::{Front, JoinedSource};
 pub use kept::KeptSource;
 pub use oas_writing::{
     ByProfileOne, ByProfileTwo, Cells, CompactCell, Draft, Elements, FormJudge, KeptBy,

@@ -2,10 +2,12 @@
 ghost use Rattle.std.specs.Prelude.{◌≡◌, Some, IfSome};
 ghost use Rattle.oas_judge.specs.declared.parts.Part.TheVariants.{End};
 ghost use Rattle.oas_judge.specs.Parts.{JudgesPart, JudgesParts};
+ghost use Rattle.oas_judge.specs.Series.{JudgesNext, JudgesAllSeries, JudgesRest};
 
 use crate::judge::FileJudge;
 use crate::kept::KeptSource;
 use crate::records::next_at_hand;
+use crate::series::next_series;
 use oas_num::{Refusal, Source, Start};
 use oas_record::Head;
 use oas_writing::{CellStore, Reader, take_record};
@@ -134,8 +136,72 @@ fn next_part<S: Source, C: CellStore>(
     read_part(alloc, source, head, at, reader, judge)
 }
 
+/// The same, or the series that is at hand. Returns also where the last of its records starts.
+#[inline(always)]
+fn next_or_series<S: Source, C: CellStore>(
+    alloc: Global,
+    source: &mut S,
+    head: &Head,
+    at: u64,
+    reader: &mut Reader<C>,
+    judge: &mut FileJudge,
+) -> Result<(Part, u64), Refusal>
+    requires { at ≡ (S.script source.old).given }
+    ensures { JudgesNext C.store head.now (S.script source.old) reader.old judge.old result (S.script source.new) reader.new judge.new }
+{
+    if let Some(last) = next_series(alloc, source, head, reader, judge)? {
+        return Ok((Part::Judged, last));
+    }
+    let part = next_part(alloc, source, head, at, reader, judge)?;
+    Ok((part, at))
+}
+
+/// Gives the reader, and shows the judge, the records as long as the file may be canonical. Returns what was taken last, and its
+/// offset, where no more is to be taken.
+fn judge_series<S: Source, C: CellStore>(
+    alloc: Global,
+    source: &mut S,
+    head: &Head,
+    reader: &mut Reader<C>,
+    judge: &mut FileJudge,
+    until: Until,
+) -> Result<Option<(Part, u64)>, Refusal>
+    ensures { JudgesAllSeries C.store head.now (S.script source.old) reader.old judge.old result (S.script source.new) reader.new judge.new }
+{
+    let mut at = source.at();
+    'series: while judge.holds() {
+        match next_or_series(alloc, source, head, at, reader, judge)? {
+            (Part::Judged, _) if matches!(until, Until::End) || judge.holds() => at = source.at(),
+            stop => return Ok(Some(stop)),
+        }
+    }
+    Ok(None)
+}
+
+/// The same of all records up to END, or up to one at which the file isn't known to be canonical, without series.
+fn judge_rest<S: Source, C: CellStore>(
+    alloc: Global,
+    source: &mut S,
+    head: &Head,
+    reader: &mut Reader<C>,
+    judge: &mut FileJudge,
+    until: Until,
+) -> Result<(Part, u64), Refusal>
+    ensures { JudgesRest C.store head.now (S.script source.old) reader.old judge.old result (S.script source.new) reader.new judge.new }
+{
+    let mut at = source.at();
+    'parts: loop {
+        match next_part(alloc, source, head, at, reader, judge)? {
+            Part::Judged if matches!(until, Until::End) || judge.holds() => at = source.at(),
+            part => return Ok((part, at)),
+        }
+    }
+}
+
 /// Gives the reader, and shows the judge, the records up to END, or up to one at which the file isn't known to be canonical.
 /// Returns what was taken last, and its offset.
+///
+/// They are looked for only as long as the file may be canonical: in another one there are few.
 pub(crate) fn judge_parts<S: Source, C: CellStore>(
     alloc: Global,
     source: &mut S,
@@ -146,11 +212,8 @@ pub(crate) fn judge_parts<S: Source, C: CellStore>(
 ) -> Result<(Part, u64), Refusal>
     ensures { JudgesParts C.store head (S.script source.old) reader.old judge.old result (S.script source.new) reader.new judge.new }
 {
-    let mut at = source.at();
-    'parts: loop {
-        match next_part(alloc, source, &head, at, reader, judge)? {
-            Part::Judged if matches!(until, Until::End) || judge.holds() => at = source.at(),
-            part => return Ok((part, at)),
-        }
+    if let Some(stop) = judge_series(alloc, source, &head, reader, judge, until)? {
+        return Ok(stop);
     }
+    judge_rest(alloc, source, &head, reader, judge, until)
 }

@@ -2,6 +2,7 @@ pub use Rattle.oas_form.proofs.AllKinds
 pub use Rattle.oas_form.proofs.ComparingLemmas
 pub use Rattle.oas_form.proofs.DrawnSound
 pub use Rattle.oas_form.proofs.DrawsSound
+pub use Rattle.oas_form.proofs.ElementSeries
 pub use Rattle.oas_form.proofs.Ending
 pub use Rattle.oas_form.proofs.FieldsGiven
 pub use Rattle.oas_form.proofs.FileLengths

@@ -16,6 +16,7 @@ pub use Rattle.oas_form.specs.Putting
 pub use Rattle.oas_form.specs.Reading
 pub use Rattle.oas_form.specs.Reasons
 pub use Rattle.oas_form.specs.Records
+pub use Rattle.oas_form.specs.Series
 pub use Rattle.oas_form.specs.Spelling
 pub use Rattle.oas_form.specs.Standing
 pub use Rattle.oas_form.specs.Stands

@@ -70,10 +70,10 @@ pub use finishing::finish_layout;
 pub use layout::Layout;
 pub use oas_cells::{ByProfileOne, ByProfileTwo, CompactCell, KeptBy};
 pub use oas_form::{
-    CellStore, Comparer, CountedCell, FormJudge, Reader, file_laws, find_end_of_input, find_record,
-    is_end, is_head, laws as form_laws, put_bytes, put_circle, put_coordinate, put_end, put_head,
-    put_number, put_opening, put_place, put_placement, put_rectangle, put_step, put_text,
-    take_record,
+    CellStore, Comparer, CountedCell, FormJudge, Reader, Room, file_laws, find_end_of_input,
+    find_record, is_end, is_head, laws as form_laws, put_bytes, put_circle, put_coordinate,
+    put_end, put_head, put_number, put_opening, put_place, put_placement, put_rectangle, put_step,
+    put_text, take_record,
 };
 pub use points::ShownPoints;
 pub use reading::read_layout;

@@ -2,6 +2,7 @@ pub use Rattle.oas_layout.proofs.AllKinds
 pub use Rattle.oas_layout.proofs.ComparingLemmas
 pub use Rattle.oas_layout.proofs.DrawnSound
 pub use Rattle.oas_layout.proofs.DrawsSound
+pub use Rattle.oas_layout.proofs.ElementSeries
 pub use Rattle.oas_layout.proofs.Ending
 pub use Rattle.oas_layout.proofs.FieldsGiven
 pub use Rattle.oas_layout.proofs.FileLengths

@@ -19,6 +19,7 @@ pub use Rattle.oas_layout.specs.Putting
 pub use Rattle.oas_layout.specs.Reading
 pub use Rattle.oas_layout.specs.Reasons
 pub use Rattle.oas_layout.specs.Records
+pub use Rattle.oas_layout.specs.Series
 pub use Rattle.oas_layout.specs.Shown
 pub use Rattle.oas_layout.specs.Spelling
 pub use Rattle.oas_layout.specs.Standing

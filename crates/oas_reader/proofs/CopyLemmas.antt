@@ -1,6 +1,6 @@
 -- the copies of a record that are held, place by place
 use Rattle.std.proofs.Common.{◌≡◌, ℕ, zero, suc, ◌+◌, ◌*◌, ◌<◌, ◌≤◌, List, [], ◌∷◌, ◌++◌, map, length, refl, sym, ap, ◌∙◌, subst, arith, Bool, true, false, append_assoc, length-append, ◌⊎◌, inl, inr}
-use Rattle.std.specs.Prelude.{Option, None, Some, replicate, nat_lt, sum_by, ◌^◌}
+use Rattle.std.specs.Prelude.{Option, None, Some, nat_lt, sum_by, ◌^◌}
 use Rattle.std.proofs.lemmas.Nat.{mul-le}
 use Rattle.std.proofs.lemmas.Bool.Decides.{nat_tests}
 use Rattle.oas_drawing.specs.Reasons.{weight_if, fault_of}
@@ -20,7 +20,6 @@ use Rattle.oas_record.specs.declared.records.Record.{Record}
 use Rattle.oas_drawing.specs.declared.drawn.Drawn.{Drawn}
 use Rattle.oas_drawing.specs.declared.kinds.Kind.{Kind}
 use Rattle.oas_drawing.specs.Modal.{ModalState}
-use Rattle.oas_drawing.specs.Drawn.{weight_so_far}
 use Rattle.oas_drawing.specs.Drawing.{kind_of, repeats, drawn_if, copies_at, offset_if, number_if, places_if, offsets_of, drawn_by}
 use Rattle.oas_drawing.proofs.Copies.{on_places}
 use Rattle.oas_reader.specs.Standing.{drawn_of}

@@ -24,3 +24,4 @@ pub mod OnceLemmas
 pub mod ReaderLemmas
 pub mod FinishLemmas
 pub mod AcceptLemmas
+pub mod SeriesLemmas

@@ -14,6 +14,13 @@ min_more m a b = grind arith
 pub capped_more : (a b : ℕ) → capped (capped a + capped b) ≡ capped (a + b)
 capped_more a b = min_more (2 ^ 64 - 1) a b
 
+min_before : (m a b : ℕ) → min (min a m + b) m ≡ min (a + b) m
+min_before m a b = grind arith
+
+-- capped before more is added
+pub capped_before : (a b : ℕ) → capped (capped a + b) ≡ capped (a + b)
+capped_before a b = min_before (2 ^ 64 - 1) a b
+
 min_capped : (m v a : ℕ) → min (v + a) m ≡ min (v + min (a * 1) m) m
 min_capped m v a = grind arith
 

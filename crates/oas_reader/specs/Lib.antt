@@ -25,6 +25,7 @@ pub mod Counted
 pub mod Standing
 pub mod Stands
 pub mod Parts
+pub mod Series
 pub mod Taken
 pub mod Copying
 pub mod Laws

@@ -1,6 +1,6 @@
 //! What is counted of a CELL, where none of its elements is kept.
 
-ghost use Rattle.std.specs.Prelude.{◌≡◌, ◌+◌, ◌<◌, ◌^◌, OnOk, OnErr};
+ghost use Rattle.std.specs.Prelude.{◌≡◌, ◌+◌, ◌<◌, ◌^◌, true, OnOk, OnErr};
 ghost use Rattle.oas_drawing.specs.Named.{drawn_once};
 ghost use Rattle.oas_drawing.specs.Tallies.{used_by};
 ghost use Rattle.oas_reader.specs.Counted.{counted_store, counted_weight, counted_more, placed_more, written_more};
@@ -101,6 +101,10 @@ impl CellStore for CountedCell {
 
     ghost alike = { counted_in_any_order };
 
+    ghost COUNTS = { true };
+
+    const COUNTS: bool = true;
+
     fn begin(alloc: Global, cell: CellRef) -> CountedCell {
         CountedCell {
             cell,
@@ -141,6 +145,13 @@ impl CellStore for CountedCell {
         self.count_once(drawn)?;
         self.weight = self.weight.saturating_add(drawn.weight());
         Ok(())
+    }
+
+    #[inline(always)]
+    fn draw_series(&mut self, count: u64, weight: u64) {
+        let all = self.weight.saturating_add(weight);
+        self.count += count;
+        self.weight = all;
     }
 }
 

@@ -13,6 +13,11 @@
 //! - A [`CellStore`] collects what the records of one CELL draw. Contracts see its CELL, how many elements were drawn, and
 //!   which lists of what was drawn it may represent (`Store`, specs/Stores.antt); it may keep less than was drawn. One that
 //!   is [`Weighed`] knows what its cell weighs with all names (`known_weight`, specs/Weights.antt).
+//! - Several records that come to a series (`IsSeries`, specs/Series.antt) are taken at once: so many elements, with a weight together,
+//!   are drawn in the last cell, and the modal variables are those after the last record alone. [`Reader::room`] says whether
+//!   the open cell keeps no element ([`CellStore::COUNTS`]), and how much the limits still allow; within that
+//!   [`Reader::take_series`] takes a series by its last record, and [`Reader::take_named_series`] one of placements or texts. That none
+//!   of the records is refused is for the caller to show. A store draws the elements by [`CellStore::draw_series`] (`DrawsSeries`).
 //! - [`Reader::hand_over`] returns what was taken ([`Taken`]; `HandsOver`, specs/Taken.antt): the names of numbers, and the
 //!   stores of all cells, which are sound and have no more elements than the limits allow. [`accept_cells`] refuses such
 //!   cells, of any [`Weighed`] stores, exactly where END does (`end_reason`, specs/Meaning.antt), with the first reason that
@@ -81,7 +86,7 @@
 //!   for a rectangle without a repetition: its record isn't moved, and its one copy is drawn at once (`accept_rectangle`,
 //!   taking.rt; proofs/OnceLemmas.antt, which uses what JudgedDraws.antt says about one copy). So is `Reader::take_named` for
 //!   a placement or a text (`accept_named`, src/named.rt); its store copies the name only where it keeps it
-//!   (`CellStore::draw_once`). Where a cell ends, its store gives back memory that only drawing needs (`CellStore::rest`).
+//!   (`CellStore::draw_once`). src/series.rt has what a series changes (`TookSeries`; proofs/SeriesLemmas.antt). Where a cell ends, its store gives back memory that only drawing needs (`CellStore::rest`).
 //!   specs/Standing.antt: what a record is judged by (`Standing`), `reason`, `took`. Stands.antt: what the definitions say
 //!   about a list (`seen`), `Represents`, `refusal`, `records_mean`. Parts.antt connects them with what is kept. The code is
 //!   proved against `reason_of` and `Took` (proofs/TakeLemmas.antt, DrawLemmas.antt, JudgedDraws.antt), and these against the
@@ -100,6 +105,7 @@ mod names;
 mod parts;
 mod reader;
 pub mod reader_laws;
+mod series;
 mod stores;
 mod taken;
 mod taking;
@@ -112,5 +118,6 @@ pub use meant::{cell_meant, head_weight};
 pub use names::{NameTable, Numbering};
 pub use oas_drawing::{Drawn, DrawnOnce};
 pub use reader::Reader;
+pub use series::Room;
 pub use stores::{CellStore, Weighed};
 pub use taken::Taken;

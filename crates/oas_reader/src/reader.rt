@@ -1,10 +1,11 @@
 //! The reader: it takes record after record, and hands over what they drew, or decides END of it.
 
-ghost use Rattle.std.specs.Prelude.{◌≡◌, ◌⊎◌, ◌++◌, ◌∷◌, [], List, None, Some, OnOk, IfOk, IfErr};
+ghost use Rattle.std.specs.Prelude.{◌≡◌, ◌⊎◌, ◌++◌, ◌∷◌, [], List, true, None, Some, OnOk, IfOk, IfErr, IfSome};
 ghost use Rattle.oas_num.specs.declared.refusals.Why.TheVariants.{Memory};
 ghost use Rattle.oas_num.specs.declared.refusals.Refusal.{Refusal as OneRefusal};
 ghost use Rattle.oas_record.specs.declared.records.Record.{Record as OneRecord};
 ghost use Rattle.oas_peek.specs.Named.{HasValidName, named_record};
+ghost use Rattle.oas_reader.specs.Series.{HasRoom, LandsNear, IsSeries};
 ghost use Rattle.oas_reader.specs.Standing.{MayRunOut};
 ghost use Rattle.oas_reader.specs.Stands.{Represents, refusal, end_refusal};
 ghost use Rattle.oas_reader.specs.Counted.{counted_store};
@@ -15,6 +16,7 @@ use crate::counted::CountedCell;
 use crate::named::accept_named;
 use crate::names::NameTable;
 use crate::parts::Parts;
+use crate::series::{Room, accept_named_series, accept_series, room_in};
 use crate::stores::CellStore;
 use crate::taken::{Taken, taken_of};
 use crate::taking::{accept, accept_rectangle};
@@ -161,6 +163,58 @@ impl<S: CellStore> Reader<S> {
         match accept_named(&mut self.parts, next) {
             Ok(()) => Ok(()),
             Err(why) => Err(keep(&mut self.failed, at, why)),
+        }
+    }
+
+    /// The room for a series in the open cell; None where a series can't be taken.
+    #[inline(always)]
+    pub fn room(&self) -> Option<Room>
+        ensures counts { IfSome result (λ _. S.COUNTS ≡ true) }
+        ensures room { IfSome result (λ room. HasRoom self.now room.elements room.weight) }
+    {
+        if self.failed.is_some() {
+            return None;
+        }
+        room_in(&self.parts)
+    }
+
+    /// Takes a series that ends with this record: `count` elements, with this weight together. None of its records may be refused.
+    pub fn take_series(&mut self, last: Record, count: u64, weight: u64)
+        requires counts { S.COUNTS ≡ true }
+        requires room { HasRoom self.old count weight }
+        requires lands { LandsNear self.old.standing.modal last }
+        ensures taken { (rs series : List OneRecord) → Represents S.store self.old rs → IsSeries rs series last count weight → Represents S.store self.new (rs ++ series) }
+        ensures unit { self.new.unit ≡ self.old.unit }
+        ensures limits { self.new.limits ≡ self.old.limits }
+        ensures profile { self.new.profile ≡ self.old.profile }
+    {
+        let mut last = last;
+        accept_series(&mut self.parts, &mut last, count, weight);
+    }
+
+    /// The same of a series of placements or texts that ends with this one, which starts at byte `at`. It fails only with
+    /// `Memory`, for its name.
+    pub fn take_named_series(
+        &mut self,
+        at: u64,
+        last: &NamedOnce<'_>,
+        count: u64,
+        weight: u64,
+    ) -> Result<(), Refusal>
+        requires counts { S.COUNTS ≡ true }
+        requires named { HasValidName last.now }
+        requires room { HasRoom self.old count weight }
+        requires lands { LandsNear self.old.standing.modal (named_record last.now) }
+        ensures failed { IfErr result (λ e. self.new.failed ≡ Some e) }
+        ensures refused { IfErr result (λ e. (e.at ≡ at) × (e.why ≡ Memory)) }
+        ensures taken { (rs series : List OneRecord) → Represents S.store self.old rs → IsSeries rs series (named_record last.now) count weight → OnOk result (Represents S.store self.new (rs ++ series)) }
+        ensures unit { OnOk result (self.new.unit ≡ self.old.unit) }
+        ensures limits { OnOk result (self.new.limits ≡ self.old.limits) }
+        ensures profile { OnOk result (self.new.profile ≡ self.old.profile) }
+    {
+        match accept_named_series(&mut self.parts, last, count, weight) {
+            Ok(()) => Ok(()),
+            Err(_) => Err(keep(&mut self.failed, at, Why::Memory)),
         }
     }
 

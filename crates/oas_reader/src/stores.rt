@@ -1,6 +1,6 @@
 //! Where what the records of a CELL draw is collected.
 
-ghost use Rattle.std.specs.Prelude.{◌≡◌, ◌⊎◌, ◌+◌, ◌<◌, ◌^◌, false, None, Some, List, [], ◌∷◌, replicate, OnOk, OnErr, IfOk, IfErr};
+ghost use Rattle.std.specs.Prelude.{◌≡◌, ◌⊎◌, ◌+◌, ◌<◌, ◌^◌, Bool, true, false, None, Some, List, [], ◌∷◌, replicate, OnOk, OnErr, IfOk, IfErr};
 ghost use Rattle.oas_num.specs.declared.refusals.Why.TheVariants.{Memory};
 ghost use Rattle.oas_shape.specs.Steps.{still};
 ghost use Rattle.oas_drawing.specs.declared.drawn.Drawn.{Drawn};
@@ -10,6 +10,7 @@ ghost use Rattle.oas_drawing.specs.Reasons.{weight_if, lacks_if, fault_of};
 ghost use Rattle.oas_reader.specs.Alike.{SameDrawn};
 ghost use Rattle.oas_reader.specs.Copying.{drawn_times};
 ghost use Rattle.oas_reader.specs.Finish.{IsFit};
+ghost use Rattle.oas_reader.specs.Series.{DrawsSeries};
 ghost use Rattle.oas_reader.specs.Stores.{Store, Draws, IsBegun};
 ghost use Rattle.oas_reader.specs.Weights.{known_weight};
 
@@ -23,6 +24,11 @@ use std::alloc::{AllocError, Global};
 pub trait CellStore: Sized + Drop {
     /// The CELL, how many elements were drawn, and what it may represent. A store that keeps no element may represent any.
     ghost store: { Store Self };
+
+    /// Whether it keeps no element, so that a series is drawn at once ([`CellStore::draw_series`]).
+    ghost COUNTS: { Bool };
+
+    const COUNTS: bool;
 
     /// A store for a CELL in which nothing is drawn.
     fn begin(alloc: Global, cell: CellRef) -> Self
@@ -82,6 +88,13 @@ pub trait CellStore: Sized + Drop {
             Err(_) => Err(Why::Memory),
         }
     }
+
+    /// Draws so many elements, with this weight together, none of which uses a number for its name. A store that keeps elements
+    /// does nothing.
+    fn draw_series(&mut self, count: u64, weight: u64)
+        requires { store.count self.old + count < 2 ^ 64 }
+        ensures drawn { COUNTS ≡ true → DrawsSeries store self.old count weight self.new }
+        ensures none { COUNTS ≡ false → self.new ≡ self.old };
 
     /// Gives back memory that only drawing needs, once all is drawn. What it may represent is unchanged.
     fn rest(&mut self)

@@ -1,6 +1,7 @@
 pub use Rattle.oas_listing.proofs.AllKinds
 pub use Rattle.oas_listing.proofs.DrawnSound
 pub use Rattle.oas_listing.proofs.DrawsSound
+pub use Rattle.oas_listing.proofs.ElementSeries
 pub use Rattle.oas_listing.proofs.Ending
 pub use Rattle.oas_listing.proofs.FieldsGiven
 pub use Rattle.oas_listing.proofs.Forms

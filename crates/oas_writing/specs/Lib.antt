@@ -19,6 +19,7 @@ pub use Rattle.oas_listing.specs.Putting
 pub use Rattle.oas_listing.specs.Reading
 pub use Rattle.oas_listing.specs.Reasons
 pub use Rattle.oas_listing.specs.Records
+pub use Rattle.oas_listing.specs.Series
 pub use Rattle.oas_listing.specs.Standing
 pub use Rattle.oas_listing.specs.Stands
 pub use Rattle.oas_listing.specs.Stores

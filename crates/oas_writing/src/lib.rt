@@ -43,8 +43,8 @@ pub use alone::put_cell_alone;
 pub use matching::has_canonical_bytes;
 pub use oas_listing::{
     ByProfileOne, ByProfileTwo, CellStore, Cells, CompactCell, CountedCell, Draft, Elements,
-    FormJudge, KeptBy, KeyedElement, Layout, Reader, Refused, ShownElement, ShownPoints, file_laws,
-    find_end_of_input, find_record, finish_layout, form_laws, is_end, is_head, put_listing,
-    read_layout, show, take_record, write_listing,
+    FormJudge, KeptBy, KeyedElement, Layout, Reader, Refused, Room, ShownElement, ShownPoints,
+    file_laws, find_end_of_input, find_record, finish_layout, form_laws, is_end, is_head,
+    put_listing, read_layout, show, take_record, write_listing,
 };
 pub use writing::{put_canonical, write_canonical};

@@ -17,6 +17,12 @@ placement-text-rectangle | HEAD CELL 11B001420000 135B02486903000000 RECT TAIL |
 triangle | HEAD CELL 153B01000402012829290000 TAIL | canonical
 triangle-the-other-way-round | HEAD CELL 153B0100040229002B280000 TAIL | other
 box-of-a-polygon | HEAD CELL BOX TAIL | canonical | other
+# series of elements of one kind
+series-of-four-kinds | HEAD CELL 11B001420000 11B001420002 135B02486903000000 135B02486903000002 RECT RECT 153B01000402012829290000*2 TAIL | canonical
+series-in-each-cell | HEAD CELL RECT RECT 0E0142 RECT RECT TAIL | canonical
+series-that-descends | HEAD CELL RECT RECT 147B00000A140000 RECT TAIL | other
+series-before-a-modal-layer | HEAD CELL RECT RECT 147A000A140000 TAIL | other
+series-that-is-cut-off | HEAD CELL RECT RECT 147B | 2@53
 # names
 equal-names | HEAD CELL CELL TAIL | 27@40
 descending-names | HEAD 0E0142 CELL TAIL | other

@@ -9,4 +9,5 @@ returns-then-is_left-clause-read g c =
 pub returns-clause-read : goal.returns-clause-read
 returns-clause-read g c =
     let all : length c.args.kept.now ≤ c.read_layout-read.new.source.at = omega (arith, c.if-is_left.false) in
-    read_on c.args.kept.now c.requires.kept c.read_layout-read.new.source.joined c.args.limits c.args.profile c.read_layout-read.result c.requires.gave all c.read_layout-read.ensures
+    let read = rw c.new-joined.ensures.gives at c.read_layout-read.ensures in
+    read_on c.args.kept.now c.requires.kept c.read_layout-read.new.source.joined c.args.limits c.args.profile c.read_layout-read.result c.requires.gave all read

@@ -1,21 +1,19 @@
 use Rattle.std.proofs.lemmas.Result.{err_from_is_err_and}
-use Rattle.oas_judge.proofs.RecordSteps.{stops}
+use Rattle.oas_judge.proofs.RecordSteps.{seen_none}
+use Rattle.oas_judge.proofs.SeriesParts.{rest_parts}
 use Rattle.oas_judge.proofs.parts.judge_parts.Goals as goal
 
-pub returns-in_err-part : goal.returns-in_err-part
-returns-in_err-part g c =
+pub returns-in_err-stop : goal.returns-in_err-stop
+returns-in_err-stop g c =
     let p = err_from_is_err_and c.from_residual.result c.from_residual.ensures.1 in
-    rw (p.1, p.2) (λ profile b. c.in_err-part.ensures profile _ _ _ b (c.parts.invariant.seen profile b))
+    rw (p.1, p.2) (λ profile b. c.in_err-stop.ensures profile _ _ _ b (seen_none b))
 
-pub parts-preserved : goal.parts-preserved
-parts-preserved g c =
-    let more = rw c.in-Judged.is at c.in_ok-part.ensures in
-    record { place = c.at-at-in-Judged.ensures; seen = λ profile b. (more.1 profile _ _ _ b (c.parts.invariant.seen profile b)).0 }
+pub returns-in-Some : goal.returns-in-Some
+returns-in-Some g c =
+    let stopped = rw c.in-Some.is at c.in_ok-stop.ensures in
+    λ profile b. stopped profile _ _ _ b (seen_none b)
 
-pub returns-in_default : goal.returns-in_default
-returns-in_default g c = λ profile b.
-    stops g.C.CellStore.store profile c.args.head c.args.reader.now b _ _ _ _ _ _ c.in_ok-part.part c.parts.at c.parts.invariant.place c.in_ok-part.ensures (c.parts.invariant.seen profile b)
-
-pub returns-in_default-2 : goal.returns-in_default-2
-returns-in_default-2 g c = λ profile b.
-    stops g.C.CellStore.store profile c.args.head c.args.reader.now b _ _ _ _ _ _ c.in_ok-part.part c.parts.at c.parts.invariant.place c.in_ok-part.ensures (c.parts.invariant.seen profile b)
+pub returns : goal.returns
+returns g c =
+    let series = rw c.in_default.is at c.in_ok-stop.ensures in
+    rest_parts g.C.CellStore.store c.args.head _ _ _ _ _ _ _ _ _ c.judge_rest.result series c.judge_rest.ensures
