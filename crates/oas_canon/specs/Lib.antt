@@ -1,4 +1,5 @@
 pub use Rattle.oas_judge.specs.Acceptance
+pub use Rattle.oas_judge.specs.Attempts
 pub use Rattle.oas_judge.specs.Bytes
 pub use Rattle.oas_judge.specs.Canonical
 pub use Rattle.oas_judge.specs.Compact
@@ -8,6 +9,7 @@ pub use Rattle.oas_judge.specs.Files
 pub use Rattle.oas_judge.specs.FormLaws
 pub use Rattle.oas_judge.specs.Gathering
 pub use Rattle.oas_judge.specs.Given as ReadGiven
+pub use Rattle.oas_judge.specs.declared.attempts.Attempt as TheAttempt
 pub use Rattle.oas_judge.specs.declared.given.Given as TheGiven
 pub use Rattle.oas_judge.specs.LayoutOf
 pub use Rattle.oas_judge.specs.Listing

@@ -24,7 +24,7 @@ impl<'a> Content for FileBytes<'a> {
 }
 
 /// Writes the canonical file of what was read, and returns how many bytes it has.
-pub(crate) fn write_given<W: Device>(given: &Given, writer: &mut W) -> Result<u64, Refusal>
+pub fn write_given<W: Device>(given: &Given, writer: &mut W) -> Result<u64, Refusal>
     ensures written { IfOk result (IsWritten W.calls writer.old (form_of given.now) writer.new) }
     ensures refused { IfErr result (IsCutOff W.calls writer.old (form_of given.now) writer.new) }
 {
@@ -44,7 +44,7 @@ fn bytes_key(bytes: &[u8]) -> [u8; 32]
 }
 
 /// The key of what was read: the SHA-256 of its canonical file.
-pub(crate) fn given_key(given: &Given) -> [u8; 32]
+pub fn given_key(given: &Given) -> [u8; 32]
     ensures { result ≡ sha256 (form_of given.now) }
 {
     match given {

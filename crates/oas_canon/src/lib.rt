@@ -90,13 +90,14 @@ mod sameness;
 pub use canonical::canonicalize;
 pub use cell_keys::{cell_key, layout_key, put_cell_keys, write_cell_keys};
 pub use checking::is_canonical;
+pub use given::{given_key, write_given};
 pub use keys::key;
 pub use oas_elements::{Element, Extensions, Layer, Limits, Profile, Turns};
 pub use oas_judge::{
-    ByProfileOne, ByProfileTwo, Cells, CompactCell, Draft, Elements, Given, KeptBy, KeptSource,
-    KeyedElement, Layout, Refused, ShownElement, ShownPoints, find_end_of_input, finish_layout,
-    has_canonical_bytes, put_canonical, put_listing, read_given, read_layout, show,
-    write_canonical, write_listing,
+    Attempt, ByProfileOne, ByProfileTwo, Cells, CompactCell, Draft, Elements, Front, Given,
+    JoinedSource, KeptBy, KeptSource, KeyedElement, Layout, Refused, ShownElement, ShownPoints,
+    find_end_of_input, finish_layout, has_canonical_bytes, put_canonical, put_listing,
+    read_canonical, read_given, read_layout, show, write_canonical, write_listing,
 };
 pub use oas_num::{
     Counter, Device, Fraction, INPUT_MAX, Label, Name, NotedWriter, Outlet, ReaderSource, Reason,

@@ -5,6 +5,7 @@ use Rattle.std.specs.Option.{option_or}
 use Rattle.std.specs.Prelude.{cond, Result, Ok}
 use Rattle.oas_num.specs.declared.refusals.Why.{Why}
 use Rattle.oas_num.specs.Grammar.{IsEach, IsSuch}
+use Rattle.oas_num.specs.Script.{Script, Consumed, IsAtEnd}
 use Rattle.oas_num.specs.Style.{Any}
 use Rattle.oas_record.specs.declared.heads.Head.{Head}
 use Rattle.oas_record.specs.declared.placements.Turn.{Turn}
@@ -15,18 +16,20 @@ use Rattle.oas_record.specs.declared.references.CellRef.{CellRef}
 use Rattle.oas_record.specs.declared.spots.Spot.{Spot}
 use Rattle.oas_record.specs.Records.{record_in, IsInner as IsInnerRecord}
 use Rattle.oas_elements.specs.declared.limits.Limits.{Limits}
+use Rattle.oas_elements.specs.declared.profile.Profile.{Profile}
 use Rattle.oas_elements.specs.Meaning.{Meaning, SameLayout}
 use Rattle.oas_narrow.specs.Standing.{open_after}
 use Rattle.oas_narrow.specs.Stands as stands
 use Rattle.oas_narrow.specs.Stands.{is_in_cell, refused_after, records_mean, end_refusal}
 use Rattle.oas_canon.specs.Acceptance.{Accepted, Means}
+use Rattle.oas_canon.specs.Canonical.{CanonicalForm}
 use Rattle.oas_canon.specs.Files.{FileOf}
 use Rattle.oas_narrow.specs.Steps.{translated_by, kept_after}
 use Rattle.oas_narrow.specs.Tracked.{tracked}
 use Rattle.oas_narrow.proofs.LawLemmas.{tracked_plain, given_plain}
 use Rattle.oas_canon.specs.FormLaws.{form_is_accepted}
 use Rattle.oas_canon.proofs.Forms.{one_canonical_form}
-use Rattle.oas_elements.proofs.LawProofs.{symmetric}
+use Rattle.oas_elements.proofs.LawProofs.{reflexive, symmetric}
 use Rattle.oas_narrow.specs.BlockHead.{BlockHead}
 use Rattle.oas_narrow.specs.WideEnd.{WideEnd}
 use Rattle.oas_narrow.specs.Validation.TheVariants.{Unvalidated}
@@ -43,10 +46,11 @@ use Rattle.oas_narrow.specs.Dropping.{nothing_left_out, capped}
 use Rattle.oas_narrow.specs.Narrowing.{is_open, kept_of, translated_after, listed, stood_for, narrowed, translated_obstacle, refused_if, obstacle_after, ArePrepared, one_if, tally, report_of}
 use Rattle.oas_narrow.specs.Roles.{plain_role, role_of, opens, outside, obstacle_by, extra_of}
 use Rattle.oas_narrow.specs.declared.roles.Role.{Role}
-use Rattle.oas_narrow.specs.Preparable.{IsUnitOf, Formed, WideMeans}
+use Rattle.oas_narrow.specs.Preparable.{IsUnitOf, IsValid, Formed, WideMeans}
 use Rattle.oas_narrow.specs.WideFiles.{WideFileOf, WideParts, inner_in, item_in, end_in}
 use Rattle.oas_narrow.proofs.KeptLemmas.{kept, plain}
 use Rattle.oas_prepare.specs.Laws.{ProfileIsPrepared, ProfileAsCanonical, PreparedAgain}
+use Rattle.oas_prepare.specs.Run.{IsPreparedAs, IsTaken}
 use Rattle.oas_prepare.proofs.OneFile.{PrefixFree-file, same_all}
 use Rattle.oas_prepare.proofs.Items.{alone, records-alone, each_alone}
 use Rattle.oas_prepare.proofs.ProfileHeads.{head_widened}
@@ -270,3 +274,33 @@ prepared_again limits profile dropping c d r form p =
     let source : p.source ≡ m = one_wide_meaning c p.source m p.means (means_wide a) in
     one_canonical_form limits limits profile d c p.target m p.form form p.becomes (means a)
     (symmetric profile m p.target (subst (λ (x : Meaning). SameLayout profile x p.target) source p.same))
+
+-- ---- a canonical file
+
+module _ {limits : Limits} {profile : Profile} {c : List ℕ} (form : CanonicalForm limits profile c) where
+  abbrev a : Accepted limits c
+  a = form_is_accepted limits profile c form
+
+  -- is prepared to itself
+  pub own_prepared : (dropping : Dropping) → IsPreparedAs limits profile dropping c c nothing_left_out
+  unfolding formed
+  own_prepared dropping =
+      let m : Meaning = records_mean a.head.unit a.records in
+      record {
+        formed = formed a dropping;
+        form = form;
+        source = m;
+        target = m;
+        means = means_wide a;
+        becomes = means a;
+        same = reflexive profile m;
+        left_out = sym (none_left_out a.records);
+      }
+
+  -- it has no signature
+  pub own_valid : (dropping : Dropping) → IsValid (own_prepared dropping).formed.end.validation c
+  unfolding own_prepared formed
+  own_valid dropping = tt
+
+  pub own_taken : (dropping : Dropping) {old new : Script} → Consumed old c new → IsAtEnd new → IsTaken limits profile dropping old new c nothing_left_out
+  own_taken dropping takes ended = record { bytes = c; takes = takes; ended = ended; is = own_prepared dropping; valid = own_valid dropping }

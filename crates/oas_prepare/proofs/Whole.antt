@@ -71,6 +71,32 @@ module _ (profile : Profile) {limits : Limits} {dropping : Dropping} {old new : 
   finished (Ok both) f = read_done (f m.records m.stands)
   finished (Err e) f = read_stops e (f m.records m.stands)
 
+-- ---- what was taken
+
+module _ {limits : Limits} {profile : Profile} {dropping : Dropping} {old new : Script} {canonical : List ℕ} {report : Report} (t : IsTaken limits profile dropping old new canonical report) where
+  pub done_by : {W : Type 0} (calls : W → Calls) (before after : W) (n : ℕ) → IsWritten calls before canonical after n → IsDone limits profile dropping old new (calls before) (calls after) report
+  done_by calls before after n written = record { canonical = canonical; taken = t; written = written.took }
+
+  pub cut_by : {W : Type 0} (calls : W → Calls) (before after : W) (refusal : Refusal) → IsCutOff calls before canonical after refusal → IsCut limits profile dropping old new (calls before) (calls after) (refused refusal)
+  cut_by calls before after refusal h = record {
+    canonical = canonical;
+    report = report;
+    taken = t;
+    front = h.front;
+    back = h.back;
+    joined = h.joined;
+    took = h.took;
+    place = ap File h.place;
+  }
+
+  pub exactly_by : Exactly limits dropping old (Ok report) new
+  exactly_by = by_rest old.rest t.takes.rest where
+    by_rest : (rest : Option Rest) → Gave rest t.bytes new.rest → IsWithinSource rest → new.failures ≡ 0 → IsDecided limits dropping rest (Ok report)
+    by_rest None g w z = tt
+    by_rest (Some rest) g w z =
+        let p : Preparable limits dropping t.bytes = record { formed = t.is.formed; valid = t.valid } in
+        subst (Preparable limits dropping) (all_given t.bytes rest new.rest g t.ended.none) p
+
 -- ---- what was written
 
 module _ {limits : Limits} {profile : Profile} {dropping : Dropping} {old new : Script} {l : Contents} {report : Report} (read : IsReadPrepared limits profile dropping old l report new) where
@@ -95,28 +121,14 @@ module _ {limits : Limits} {profile : Profile} {dropping : Dropping} {old new : 
 
   pub done : {W : Type 0} (calls : W → Calls) (before after : W) (n : ℕ) → IsWritten calls before (canonical_bytes (meaning_of l)) after n →
       IsDone limits profile dropping old new (calls before) (calls after) report
-  done calls before after n written = record { canonical = canonical_bytes (meaning_of l); taken = taken; written = written.took }
+  done = done_by taken
 
   pub cut : {W : Type 0} (calls : W → Calls) (before after : W) (refusal : Refusal) → IsCutOff calls before (canonical_bytes (meaning_of l)) after refusal →
       IsCut limits profile dropping old new (calls before) (calls after) (refused refusal)
-  cut calls before after refusal h = record {
-    canonical = canonical_bytes (meaning_of l);
-    report = report;
-    taken = taken;
-    front = h.front;
-    back = h.back;
-    joined = h.joined;
-    took = h.took;
-    place = ap File h.place;
-  }
+  cut = cut_by taken
 
   pub exactly_done : Exactly limits dropping old (Ok report) new
-  exactly_done = by_rest old.rest read.takes.rest where
-    by_rest : (rest : Option Rest) → Gave rest read.bytes new.rest → IsWithinSource rest → new.failures ≡ 0 → IsDecided limits dropping rest (Ok report)
-    by_rest None g w z = tt
-    by_rest (Some rest) g w z =
-        let p : Preparable limits dropping read.bytes = record { formed = read.formed; valid = read.valid } in
-        subst (Preparable limits dropping) (all_given read.bytes rest new.rest g read.ended.none) p
+  exactly_done = exactly_by taken
 
 -- ---- for known bytes
 

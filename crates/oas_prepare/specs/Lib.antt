@@ -1,13 +1,16 @@
 pub use Rattle.oas_canon.specs.Acceptance
+pub use Rattle.oas_canon.specs.Attempts
 pub use Rattle.oas_canon.specs.Bytes
 pub use Rattle.oas_canon.specs.Canonical
 pub use Rattle.oas_canon.specs.CellKeys
 pub use Rattle.oas_canon.specs.Deciding as FileDeciding
+pub use Rattle.oas_canon.specs.Given as GivenForm
 pub use Rattle.oas_canon.specs.Listing
 pub use Rattle.oas_canon.specs.Putting
 pub use Rattle.oas_canon.specs.ReadGiven
 pub use Rattle.oas_canon.specs.Reading
 pub use Rattle.oas_canon.specs.Run as CanonRun
+pub use Rattle.oas_canon.specs.TheAttempt
 pub use Rattle.oas_canon.specs.TheGiven
 pub use Rattle.oas_canon.specs.declared.sameness.Which
 pub use Rattle.oas_narrow.specs.Dropping

@@ -62,9 +62,9 @@ mod units;
 // The crates below, for those above.
 
 pub use oas_canon::{
-    Given, KeptSource, Layout, Limits, PROFILE, Refusal, Sink, SinkFault, SliceSource, Which, Why,
-    has_canonical_bytes, key, put_canonical, put_cell_keys, put_listing, read_given, read_layout,
-    same_files,
+    Attempt, Front, Given, JoinedSource, KeptSource, Layout, Limits, PROFILE, Refusal, Sink,
+    SinkFault, SliceSource, Which, Why, given_key, has_canonical_bytes, key, put_canonical,
+    put_cell_keys, put_listing, read_canonical, read_given, read_layout, same_files, write_given,
 };
 pub use oas_narrow::{Dropping, Extra, Place, Rejection, Report, WideWhy};
 pub use preparing::{prepare, read_prepared};

@@ -4,3 +4,4 @@ pub mod AnswerLemmas
 pub mod SamenessLemmas
 pub mod EndLemmas
 pub mod CheckLemmas
+pub mod JudgedLemmas

@@ -5,3 +5,4 @@ pub mod Runs
 pub mod Answers
 pub mod Sameness
 pub mod Checks
+pub mod Judged

@@ -2,12 +2,15 @@
 //! to, and answers about that file, which isn't written for them. They are generic over their inputs and outputs, so that
 //! tests call them over memory; the program opens the streams of its process and calls them. What they promise to it:
 //!
-//! - [`run_prepare`] returns status 0 where `oas_prepare::prepare` returned Ok, and 1 where it stopped. What was read and
+//! - [`run_prepare`] returns status 0 where `oas_prepare::prepare` would return Ok, and 1 where it would stop. What was read and
 //!   written is all that the contract of that call says for its result (`Prepares`, specs/Runs.antt). What the error output
 //!   took is a prefix of one line: after an Ok of the line that says what was left out, which is empty where nothing was;
 //!   otherwise of the rejection's line (`said`).
 //! - [`prepare_telling`] is the same over a sink for that line, whose contract counts failures: the line was put, unless the
 //!   sink failed (`Ends`).
+//! - They judge the file as they read it, and so does the key: a canonical file isn't read by the standard. What they promise is
+//!   about a source that gives the bytes which their source gives (`OnAgain`, specs/Judged.antt): that source itself where the
+//!   file is canonical, and otherwise one that gives the bytes which were taken once more, and then the others.
 //! - [`prepared_key`] returns the SHA-256 of the canonical file that `prepare` writes, and stops exactly as that does
 //!   (`KeysPrepared`, specs/Answers.antt). [`key_telling`] writes that key and a name in a line (`Delivers`): the line of
 //!   `oas_command` (`named_key_line`). Its status and its line on the error output are as above; where the writer failed that
@@ -31,6 +34,8 @@
 //!   record, with a comma between two; without a phrase there is no line. The loop puts the separator before each phrase,
 //!   which is nothing before the first (`behind`, proofs/PhraseLemmas.antt). There is a phrase exactly where something was
 //!   left out, which is proved there too.
+//! - src/judged.rt: the read that judges. A canonical file is prepared to itself, with nothing left out (`own_taken` of
+//!   oas_prepare, proofs/ProfileFiles.antt; proofs/JudgedLemmas.antt).
 //! - src/kinds.rt: the kinds in words. src/runs.rt: the run that writes the canonical file. src/ends.rt: how each run ends.
 //! - src/keys.rt: a layout that was read is keyed as it is (`layout_key` of oas_canon). That this is the key of the file that
 //!   `prepare` writes follows from what oas_prepare proves of its own writing (`taken` of its proofs/Whole.antt). A run that
@@ -52,6 +57,7 @@
 
 mod checks;
 mod ends;
+mod judged;
 mod keeping;
 mod keys;
 mod kinds;

@@ -54,16 +54,11 @@ impl<'a> Preparing<'a> {
     fn heard(self, session: &Session<'a>, name: &str, from: &mut Incoming<'_>) -> Result<u8, u8> {
         let mut said = room(session, name, name.len())?;
         let mut out = session.output(self.output, Existing::Replaced);
-        let (alloc, limits) = (session.rt.alloc(), session.limits);
-        let status = run_prepare(
-            alloc,
-            name,
-            from,
-            &mut out,
-            &mut said,
-            limits,
-            self.dropping,
-        );
+        let (alloc, limits, dropping) = (session.rt.alloc(), session.limits, self.dropping);
+        let status = run_prepare(alloc, name, from, &mut out, &mut said, limits, dropping);
+        let Some(status) = status else {
+            return Err(session.unbegun(name));
+        };
         session.tell(said.get_ref(), self.output, out.fault(), self.asked());
         Ok(status)
     }
@@ -100,6 +95,9 @@ impl Asking {
         let mut said = room(session, name, name.len())?;
         let mut out = session.output(None, Existing::Replaced);
         let status = self.told(session, name, label, from, &mut out, &mut said);
+        let Some(status) = status else {
+            return Err(session.unbegun(name));
+        };
         let fault = out.fault();
         let onward = self.onward();
         session.tell(said.get_ref(), None, fault, Asked { path, onward });
@@ -109,7 +107,7 @@ impl Asking {
         })
     }
 
-    /// Prints the answer, puts what is said into memory, and returns the status.
+    /// Prints the answer, puts what is said into memory, and returns the status; None if out of memory for the file.
     fn told(
         &self,
         session: &Session<'_>,
@@ -118,7 +116,7 @@ impl Asking {
         from: &mut Incoming<'_>,
         out: &mut Outgoing<'_>,
         said: &mut Said,
-    ) -> u8 {
+    ) -> Option<u8> {
         let (alloc, limits, dropping) = (session.rt.alloc(), session.limits, self.dropping);
         let mut told = Outlet::new(said);
         let status = match self.question {
@@ -126,7 +124,7 @@ impl Asking {
                 key_telling(alloc, name, label, from, out, &mut told, limits, dropping)
             }
             Question::Check => {
-                check_telling(alloc, name, label, from, out, &mut told, limits, dropping)
+                Some(check_telling(alloc, name, label, from, out, &mut told, limits, dropping))
             }
         };
         let _ = told.close();

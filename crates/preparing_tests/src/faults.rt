@@ -83,7 +83,7 @@ fn answer_of_writers(
         dropping,
     );
     Ok((
-        status,
+        status.unwrap_or(9),
         out.taken.as_slice() == output,
         err.taken.as_slice() == line,
     ))

@@ -64,8 +64,14 @@ const LABEL: Label<'static> = Label {
     end: End::Newline,
 };
 
-/// The status of a run.
-fn status(alloc: Global, asked: Asked, file: &[u8], out: &mut Narrow, err: &mut Narrow) -> u8 {
+/// The status of a run; None where it was out of memory for the file.
+fn status(
+    alloc: Global,
+    asked: Asked,
+    file: &[u8],
+    out: &mut Narrow,
+    err: &mut Narrow,
+) -> Option<u8> {
     let from = &mut SliceSource::new(file, INPUT_MAX);
     let (limits, dropping) = (Limits::standard(), dropping_of("all"));
     let mut err = NotedWriter::new(err);
@@ -74,7 +80,9 @@ fn status(alloc: Global, asked: Asked, file: &[u8], out: &mut Narrow, err: &mut 
     let status = match asked {
         Asked::Prepare => prepare_telling(alloc, NAME, from, out, &mut told, limits, dropping),
         Asked::Key => key_telling(alloc, NAME, LABEL, from, out, &mut told, limits, dropping),
-        Asked::Check => check_telling(alloc, NAME, LABEL, from, out, &mut told, limits, dropping),
+        Asked::Check => Some(check_telling(
+            alloc, NAME, LABEL, from, out, &mut told, limits, dropping,
+        )),
     };
     let _ = told.close();
     status
@@ -93,12 +101,11 @@ fn run(
     out.taken.clear();
     err.taken.clear();
     let status = status(alloc, asked, file, out, err);
-    if status == 0 && out.taken.as_slice() == wanted {
-        "done"
-    } else if status != 0 && out.taken.is_empty() && is_refusal(&err.taken) {
-        "refused"
-    } else {
-        "wrong"
+    match status {
+        Some(0) if out.taken.as_slice() == wanted => "done",
+        Some(1) if out.taken.is_empty() && is_refusal(&err.taken) => "refused",
+        None if out.taken.is_empty() && err.taken.is_empty() => "refused",
+        _ => "wrong",
     }
 }
 

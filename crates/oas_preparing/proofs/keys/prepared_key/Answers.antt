@@ -1,11 +1,13 @@
-use Rattle.std.proofs.lemmas.Result.{err_from_is_err_and}
-use Rattle.oas_preparing.proofs.AnswerLemmas.{keyed, unkeyed}
+use Rattle.oas_preparing.proofs.AnswerLemmas.{unkeyed}
+use Rattle.oas_preparing.proofs.JudgedLemmas.{keys_given}
 use Rattle.oas_preparing.proofs.keys.prepared_key.Goals as goal
 
-pub returns-in_err-layout : goal.returns-in_err-layout
-returns-in_err-layout g c =
-    let p = err_from_is_err_and c.from_residual.result c.from_residual.ensures.1 in
-    rw (p.1, p.2) (unkeyed _ c.in_err-layout.ensures)
+pub returns-in-Ok : goal.returns-in-Ok
+returns-in-Ok g c =
+    let read = rw c.in-Ok.is at c.in_ok-read.ensures in
+    record { again = read.again; last = read.last; gives = read.gives; ran = keys_given c.in-Ok.given c.in-Ok.report _ c.given_key.ensures read.ran }
 
-pub returns : goal.returns
-returns g c = keyed c.in_ok-layout.ensures _ c.layout_key.ensures
+pub returns-in-Err : goal.returns-in-Err
+returns-in-Err g c =
+    let read = rw c.in-Err.is at c.in_ok-read.ensures in
+    record { again = read.again; last = read.last; gives = read.gives; ran = unkeyed _ read.ran }
