@@ -12,6 +12,11 @@ use Rattle.oas_prepare.specs.Bytes.{canonical_bytes}
 use Rattle.oas_prepare.specs.Canonical.{CanonicalForm}
 use Rattle.oas_prepare.proofs.Written.{canonical_form}
 use Rattle.oas_prepare.proofs.CanonWhole.{all_given, Cause, Bytes, End, Device, Limit, Writer, Room, cause_of, within_not}
+use Rattle.oas_prepare.specs.Attempts.{ReadsCanonical}
+use Rattle.oas_prepare.specs.TheAttempt.{Attempt}
+use Rattle.oas_prepare.specs.TheAttempt.TheVariants.{Canonical, Taken}
+use Rattle.oas_prepare.specs.Dropping.{nothing_left_out}
+use Rattle.oas_prepare.proofs.ProfileFiles.{own_prepared, own_valid}
 use Rattle.oas_prepare.specs.NarrowDropping.{Dropping}
 use Rattle.oas_prepare.specs.Report.{Report}
 use Rattle.oas_prepare.specs.Rejection.{Rejection}
@@ -23,7 +28,7 @@ use Rattle.oas_prepare.specs.Reasons.{IsReasoned}
 use Rattle.oas_prepare.specs.Run.{IsPreparedAs, IsStopped, IsPlaced}
 use Rattle.oas_prepare.proofs.Whole.{memory_is}
 use Rattle.oascanon_c.specs.Buffers.{over}
-use Rattle.oascanon_c.specs.Preparing.{IsPreparedFrom, IsPreparedTo, IsStoppedFor}
+use Rattle.oascanon_c.specs.Preparing.{IsCanonicalFile, IsPreparedFrom, IsPreparedTo, IsStoppedFor}
 use Rattle.oascanon_c.proofs.ReadingLemmas.{all_taken, whole}
 
 -- ---- a file that is prepared
@@ -53,6 +58,24 @@ module _ (limits : Limits) (dropping : Dropping) (bytes : List ℕ) (l : Content
       let fits : length read.bytes ≤ limits.input = omega (arith, ap length all.0, all.1) in
       subst (λ (b : List ℕ). IsPreparedTo limits dropping b (canonical_bytes (meaning_of l)) report) all.0
       (record { is = prepared_as; valid = read.valid; fits = fits })
+
+-- ---- a canonical file
+
+abbrev pub IsWhole : Option Attempt → Type 0
+IsWhole (Some (Canonical kept)) = Unit {0}
+IsWhole _ = ⊥
+
+-- it is all that was given
+pub canonical_file : (limits : Limits) (bytes : List ℕ) (left : Script) (read : Option Attempt) → ReadsCanonical limits Two (over limits bytes) read left → IsWhole read → IsCanonicalFile limits bytes
+canonical_file limits bytes left (Some (Canonical kept)) given is =
+    let all = all_taken limits bytes kept.items left given.takes given.ended in
+    record { form = subst (CanonicalForm limits Two) all.0 given.form; fits = omega (arith, ap length all.0, all.1) }
+canonical_file limits bytes left (Some (Taken kept)) given is = absurd is
+canonical_file limits bytes left None given is = absurd is
+
+-- and is prepared to itself
+pub itself_prepared : (limits : Limits) (dropping : Dropping) (bytes : List ℕ) → IsCanonicalFile limits bytes → IsPreparedTo limits dropping bytes bytes nothing_left_out
+itself_prepared limits dropping bytes h = record { is = own_prepared h.form dropping; valid = own_valid h.form dropping; fits = h.fits }
 
 -- ---- one that isn't
 

@@ -6,6 +6,7 @@ use Rattle.oas_elements.specs.declared.limits.Limits.{Limits}
 use Rattle.oas_elements.specs.declared.profile.Profile.TheVariants.{Two}
 use Rattle.oas_elements.specs.Limits.{IsLimits}
 use Rattle.oas_elements.specs.Contents.{Contents}
+use Rattle.oas_prepare.specs.Canonical.{CanonicalForm}
 use Rattle.oas_prepare.specs.NarrowDropping.{Dropping}
 use Rattle.oas_prepare.specs.Report.{Report}
 use Rattle.oas_prepare.specs.Rejection.{Rejection}
@@ -23,6 +24,11 @@ use Rattle.oascanon_c.specs.Rooms.{Puts}
 -- the kinds of records that bits name: bit 0 properties, bit 1 names of layers, bit 2 extensions; no other bit names any
 abbrev pub dropping_of : ℕ → Option Dropping
 dropping_of bits = if nat_lt bits 8 then Some (record { properties = bits % 2 == 1; layer_names = bits / 2 % 2 == 1; extensions = bits / 4 == 1 }) else None
+
+-- the bytes are a canonical file, no more of them than an input may have
+pub record IsCanonicalFile (limits : Limits) (bytes : List ℕ) : Type 0 where
+  pub form : CanonicalForm limits Two bytes
+  pub fits : length bytes ≤ limits.input
 
 -- all of the bytes are a file that is prepared, with this layout, and that is left out
 abbrev pub IsPreparedFrom : Limits → Dropping → List ℕ → Contents → Report → Type 0

@@ -50,7 +50,7 @@ pub(crate) fn put_form(layout: &Layout, room: &mut [u8]) -> Answer
 }
 
 /// Puts a file's bytes into the room, as far as they fit.
-fn put_file(bytes: &[u8], room: &mut [u8]) -> Answer
+pub(crate) fn put_file(bytes: &[u8], room: &mut [u8]) -> Answer
     ensures { Puts bytes.now room.old result room.new }
 {
     let mut filler = Filler::new(room);

@@ -1,12 +1,13 @@
 //! Preparing a file of the standard, over bytes and room.
-ghost use Rattle.std.specs.Prelude.{◌≡◌, IfOk, IfErr};
-ghost use Rattle.oascanon_c.specs.Preparing.{IsPreparedFrom, IsStoppedFor, Prepares, dropping_of};
+ghost use Rattle.std.specs.Prelude.{◌≡◌, true, IfOk, IfErr};
+ghost use Rattle.oascanon_c.specs.Preparing.{IsCanonicalFile, IsPreparedFrom, IsStoppedFor, Prepares, dropping_of};
 
 use crate::bounds::Bounds;
-use crate::buffers::put_form;
+use crate::buffers::{put_file, put_form};
 use crate::wide_answers::WideAnswer;
 use oas_prepare::{
-    Dropping, Layout, Limits, PROFILE, Rejection, Report, SliceSource, read_prepared,
+    Attempt, Dropping, Layout, Limits, PROFILE, Rejection, Report, SliceSource, read_canonical,
+    read_prepared,
 };
 use std::alloc::Global;
 
@@ -24,6 +25,17 @@ fn kinds_of(bits: u32) -> Option<Dropping>
     })
 }
 
+/// Whether these bytes are known to be a canonical file.
+fn is_canonical_file(alloc: Global, bytes: &[u8], limits: Limits) -> bool
+    ensures { result ≡ true → IsCanonicalFile limits bytes.now }
+{
+    let mut source = SliceSource::new(bytes, limits.input());
+    match read_canonical(alloc, &mut source, limits, PROFILE) {
+        Some(Attempt::Canonical(_)) => true,
+        _ => false,
+    }
+}
+
 /// The layout that the records of a file of the standard are translated to, and what was left out of it.
 fn read_wide(
     alloc: Global,
@@ -39,7 +51,7 @@ fn read_wide(
 }
 
 /// Puts the canonical file of what the records of a file of the standard are translated to into the room, without the kinds of
-/// records that bits name.
+/// records that bits name. A canonical file is that itself.
 pub(crate) fn prepare(
     alloc: Global,
     bytes: &[u8],
@@ -55,6 +67,9 @@ pub(crate) fn prepare(
     let Some(dropping) = kinds_of(kinds) else {
         return WideAnswer::UnknownDrop;
     };
+    if is_canonical_file(alloc, bytes, limits) {
+        return WideAnswer::Prepared(put_file(bytes, room), Report::new());
+    }
     match read_wide(alloc, bytes, limits, dropping) {
         Ok((layout, report)) => WideAnswer::Prepared(put_form(&layout, room), report),
         Err(rejection) => WideAnswer::Stopped(rejection),
