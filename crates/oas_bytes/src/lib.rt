@@ -30,8 +30,8 @@
 //!   alone, and a call that failed is a byte of another.
 //! - src/flushing.rt: all calls of a device (the loop over `write` in `send`, and `flush`), with the record of whether a
 //!   flush came after the last byte. src/windows.rt: the buffered bytes, seen as a list (`impl Model`). src/outlets.rt: the
-//!   outlet. After a fault its window counts as full, so `put` needs one test only; a full window leads to the cold
-//!   `put_after_spill`.
+//!   outlet. After a fault its window counts as full, so `put` needs one test only, and so do `put_two` and its like; a
+//!   window without room leads to the cold `put_after_spill` and `put_few`.
 //! - specs/Outlets.antt names the private state once (`unsent`, `failures_of`, `Opens`); crates above use it only through
 //!   OutletLaws. An outlet keeps its writer's ghost name (`same_writer`): without it the borrower would know nothing of its
 //!   writer afterwards.

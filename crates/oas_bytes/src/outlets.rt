@@ -20,7 +20,7 @@ pub struct Outlet<'a, W> {
     taken: u64,
     ghost within: { taken ≤ 2 ^ 64 - 1 },
     flush_record: FlushRecord,
-    // After a fault the window is full, so `put` needs one test only.
+    // After a fault the window is full, so `put` and its like need one test only.
     failed: bool,
     ghost full: { failed ≡ true → length window ≡ 8192 },
 }
@@ -138,6 +138,15 @@ impl<'a, W: Device> Outlet<'a, W> {
         Ok(())
     }
 
+    /// Puts a few bytes for which the window has no room.
+    #[cold]
+    #[inline(never)]
+    fn put_few(&mut self, bytes: &[u8]) -> Result<(), SinkFault>
+        ensures { Writes (IsGiven W.calls) failures_of self.old bytes.now result self.new }
+    {
+        self.put_over(bytes)
+    }
+
     /// Puts a byte where the window is full.
     #[cold]
     #[inline(never)]
@@ -172,6 +181,33 @@ impl<'a, W: Device> Sink for Outlet<'a, W> {
         }
         self.window.push(byte);
         Ok(())
+    }
+
+    #[inline(always)]
+    fn put_two(&mut self, first: u8, second: u8) -> Result<(), SinkFault> {
+        if self.window.has_room_for(2) {
+            self.window.extend(&[first, second]);
+            return Ok(());
+        }
+        self.put_few(&[first, second])
+    }
+
+    #[inline(always)]
+    fn put_three(&mut self, first: u8, second: u8, third: u8) -> Result<(), SinkFault> {
+        if self.window.has_room_for(3) {
+            self.window.extend(&[first, second, third]);
+            return Ok(());
+        }
+        self.put_few(&[first, second, third])
+    }
+
+    #[inline(always)]
+    fn put_four(&mut self, first: u8, second: u8, third: u8, fourth: u8) -> Result<(), SinkFault> {
+        if self.window.has_room_for(4) {
+            self.window.extend(&[first, second, third, fourth]);
+            return Ok(());
+        }
+        self.put_few(&[first, second, third, fourth])
     }
 
     /// Bytes for which the window has room are copied at once.

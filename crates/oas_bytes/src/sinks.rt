@@ -35,6 +35,30 @@ pub trait Sink {
         Ok(())
     }
 
+    /// Takes two bytes. A sink that has a buffer can test once whether there is room for both.
+    #[inline(always)]
+    fn put_two(&mut self, first: u8, second: u8) -> Result<(), SinkFault>
+        ensures { Writes given failures self.old (first ∷ second ∷ []) result self.new }
+    {
+        self.put_all(&[first, second])
+    }
+
+    /// Takes three bytes.
+    #[inline(always)]
+    fn put_three(&mut self, first: u8, second: u8, third: u8) -> Result<(), SinkFault>
+        ensures { Writes given failures self.old (first ∷ second ∷ third ∷ []) result self.new }
+    {
+        self.put_all(&[first, second, third])
+    }
+
+    /// Takes four bytes.
+    #[inline(always)]
+    fn put_four(&mut self, first: u8, second: u8, third: u8, fourth: u8) -> Result<(), SinkFault>
+        ensures { Writes given failures self.old (first ∷ second ∷ third ∷ fourth ∷ []) result self.new }
+    {
+        self.put_all(&[first, second, third, fourth])
+    }
+
     /// A sink to which nothing was put was given nothing.
     ghost none_given: { (s : Self) → given s [] s };
 }

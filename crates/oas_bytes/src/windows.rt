@@ -72,8 +72,17 @@ impl Window {
         SIZE - self.held
     }
 
+    /// Whether there is room for a few more bytes, at most as many as the window holds.
+    #[inline(always)]
+    pub(crate) fn has_room_for(&self, count: usize) -> bool
+        requires { count ≤ 8192 }
+        ensures { result ≡ true → length self.now + count ≤ 8192 }
+    {
+        self.held <= SIZE - count
+    }
+
     /// Adds bytes.
-    #[inline]
+    #[inline(always)]
     pub(crate) fn extend(&mut self, bytes: &[u8])
         requires { length self.old + length bytes.now ≤ 8192 }
         ensures { self.new ≡ self.old ++ bytes.now }

@@ -18,6 +18,7 @@ pub mod DrawnAgain
 pub mod DrawnFits
 pub mod DrawsSound
 pub mod DrawnSound
+pub mod FewGroups
 pub mod FieldSpelling
 pub mod ElementSeries
 pub mod ElementSpelling

@@ -17,7 +17,7 @@
 //!   placement or a text after one of its kind by its fields alone, and reuses that one's memory ([`FormJudge::place_next`]).
 //!   [`is_head`] and [`is_end`] say whether bytes are those before the first record and END.
 //! - The parts of a writer: each puts the bytes of a part into a sink, and returns how many they are; after a fault a prefix of
-//!   them was put (`Counts`, specs/Putting.antt). They are [`put_head`], [`put_opening`], [`put_rectangle`], [`put_step`] and
+//!   them was put (`Counts`, specs/Putting.antt). They are [`put_head`], [`put_opening`], [`put_rectangle`], [`put_delta`] and
 //!   their like, and [`put_end`]. None of them allocates. A [`Comparer`] is a sink that compares what it is given with bytes.
 //! - [`meaning_laws`] and [`spelling_laws`] say about the records of a canonical file (`records_of`, specs/Records.antt) what
 //!   they mean, that they are accepted, and how they are spelled.
@@ -118,4 +118,4 @@ pub use oas_file::{
     find_end_of_input, find_record, laws as file_laws, take_record, take_records,
 };
 pub use parts::{put_bytes, put_coordinate, put_number, put_place};
-pub use point_lists::put_step;
+pub use point_lists::put_delta;

@@ -1,6 +1,6 @@
 //! The parts of records, put and counted.
 
-ghost use Rattle.std.specs.Prelude.{◌≡◌, ◌+◌, ◌≤◌, ◌^◌, length, nat_abs, true, IfOk};
+ghost use Rattle.std.specs.Prelude.{◌≡◌, ◌+◌, ◌%◌, ◌≤◌, ◌^◌, length, nat_abs, true, IfOk};
 ghost use Rattle.oas_num.specs.Style.{code};
 ghost use Rattle.oas_num.specs.Writing.{shortest, shortest_signed};
 ghost use Rattle.oas_elements.specs.Grid.{is_coordinate};
@@ -26,20 +26,68 @@ pub fn put_bytes<K: Sink>(sink: &mut K, bytes: &[u8]) -> Result<u64, SinkFault>
     Ok(bytes.len() as u64)
 }
 
-/// Puts a number, seven bits a byte, the lowest first, and returns how many bytes these are.
-pub fn put_number<K: Sink>(sink: &mut K, value: u64) -> Result<u64, SinkFault>
+/// The least numbers of two, three, four and five bytes.
+const TWO_BYTES: u64 = 1 << 7;
+
+const THREE_BYTES: u64 = 1 << 14;
+
+const FOUR_BYTES: u64 = 1 << 21;
+
+const FIVE_BYTES: u64 = 1 << 28;
+
+/// The lowest seven bits of a number, as a byte that others follow.
+#[inline(always)]
+fn lowest(value: u64) -> u8
+    ensures { result ≡ value % 128 + 128 }
+{
+    (value % 128) as u8 + 128
+}
+
+/// Puts a number of any length, one byte after another.
+#[cold]
+#[inline(never)]
+fn put_long<K: Sink>(sink: &mut K, value: u64) -> Result<u64, SinkFault>
     ensures counts { Counts K.given K.failures sink.old (shortest value) result sink.new }
     ensures short { IfOk result (λ n. n ≤ 10) }
 {
     let mut rest = value;
     let mut count = 0;
     while rest >= 128 {
-        sink.put((rest % 128) as u8 + 128)?;
+        sink.put(lowest(rest))?;
         rest /= 128;
         count += 1;
     }
     sink.put(rest as u8)?;
     Ok(count + 1)
+}
+
+/// Puts a number, seven bits a byte, the lowest first, and returns how many bytes these are. Those of up to four bytes, as
+/// most are, go into the sink at once.
+#[inline(always)]
+pub fn put_number<K: Sink>(sink: &mut K, value: u64) -> Result<u64, SinkFault>
+    ensures counts { Counts K.given K.failures sink.old (shortest value) result sink.new }
+    ensures short { IfOk result (λ n. n ≤ 10) }
+{
+    if value < TWO_BYTES {
+        sink.put(value as u8)?;
+        return Ok(1);
+    }
+    let second = value / 128;
+    if value < THREE_BYTES {
+        sink.put_two(lowest(value), second as u8)?;
+        return Ok(2);
+    }
+    let third = second / 128;
+    if value < FOUR_BYTES {
+        sink.put_three(lowest(value), lowest(second), third as u8)?;
+        return Ok(3);
+    }
+    let fourth = third / 128;
+    if value < FIVE_BYTES {
+        sink.put_four(lowest(value), lowest(second), lowest(third), fourth as u8)?;
+        return Ok(4);
+    }
+    put_long(sink, value)
 }
 
 /// Puts a coordinate or an extension, and returns its length.

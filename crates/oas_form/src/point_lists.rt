@@ -3,44 +3,40 @@
 ghost use Rattle.std.specs.Prelude.{◌≡◌, ◌∷◌, ◌+◌, ◌*◌, ◌<◌, ◌≤◌, ◌^◌, ◌-ℤ◌, length, nat_abs, true, IfOk};
 ghost use Rattle.std.specs.List.{list_all};
 ghost use Rattle.oas_num.specs.Writing.{shortest_gdelta};
-ghost use Rattle.oas_num.specs.Deltas.{step};
 ghost use Rattle.oas_elements.specs.Grid.{is_grid_point};
 ghost use Rattle.oas_form.specs.Bytes.{step_bytes, list_bytes, points_bytes};
 ghost use Rattle.oas_form.specs.Putting.{Counts};
 
 use crate::parts::{coded, put_bytes, put_number, put_place};
-use oas_num::{GDelta, Sink, SinkFault};
+use oas_num::{Sink, SinkFault};
 use oas_ring::Point;
 
 /// The type of a list of g-deltas.
 const STEPS: [u8; 1] = [4];
 
-/// The step from one point to another. It is at most twice as long as the grid.
-fn step(from: Point, to: Point) -> GDelta
-    requires from { is_grid_point from ≡ true }
-    requires to { is_grid_point to ≡ true }
-    ensures step { result ≡ step (to.x -ℤ from.x) (to.y -ℤ from.y) }
-    ensures dx { nat_abs result.dx ≤ 2 ^ 61 }
-    ensures dy { nat_abs result.dy ≤ 2 ^ 61 }
+/// Puts a step, across and up, as a g-delta of form 2 (SEMI P39, Deltas), and returns its length. It is inlined in the loops
+/// that call it, so that what is left to put stays in registers.
+#[inline(always)]
+pub fn put_delta<K: Sink>(sink: &mut K, dx: i64, dy: i64) -> Result<u64, SinkFault>
+    requires dx { nat_abs dx ≤ 2 ^ 61 }
+    requires dy { nat_abs dy ≤ 2 ^ 61 }
+    ensures counts { Counts K.given K.failures sink.old (shortest_gdelta dx dy) result sink.new }
+    ensures short { IfOk result (λ n. n ≤ 20) }
 {
-    GDelta {
-        dx: to.x - from.x,
-        dy: to.y - from.y,
-    }
+    // The lowest bit of the first number says that there is a second.
+    let across = put_number(sink, 2 * coded(dx) + 1)?;
+    let up = put_number(sink, coded(dy))?;
+    Ok(across + up)
 }
 
-/// Puts the step from one point to another, as a g-delta of form 2 (SEMI P39, Deltas), and returns its length.
-pub fn put_step<K: Sink>(sink: &mut K, from: Point, to: Point) -> Result<u64, SinkFault>
+/// Puts the step from one point to another, and returns its length.
+fn put_step<K: Sink>(sink: &mut K, from: Point, to: Point) -> Result<u64, SinkFault>
     requires from { is_grid_point from ≡ true }
     requires to { is_grid_point to ≡ true }
     ensures counts { Counts K.given K.failures sink.old (shortest_gdelta (to.x -ℤ from.x) (to.y -ℤ from.y)) result sink.new }
     ensures short { IfOk result (λ n. n ≤ 20) }
 {
-    let step = step(from, to);
-    // The lowest bit of the first number says that there is a second.
-    let across = put_number(sink, 2 * coded(step.dx) + 1)?;
-    let up = put_number(sink, coded(step.dy))?;
-    Ok(across + up)
+    put_delta(sink, to.x - from.x, to.y - from.y)
 }
 
 /// Puts the steps from a point to those after it, each from the one before.

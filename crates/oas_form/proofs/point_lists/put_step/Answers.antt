@@ -1,29 +1,16 @@
-use Rattle.std.proofs.Common.{ap}
-use Rattle.std.proofs.lemmas.Result.{err_from_is_err_and}
-use Rattle.oas_num.specs.Writing.{shortest_gdelta}
-use Rattle.oas_num.specs.declared.deltas.GDelta.{GDelta}
-use Rattle.oas_form.proofs.PointPutting.{part_coded}
-use Rattle.oas_form.proofs.PuttingLemmas.{first, first_fails, last_fails, ends}
+use Rattle.std.proofs.Common.{◌≤◌, ◌^◌, subst, sym}
+use Rattle.std.specs.Prelude.{ℤ, nat_abs}
+use Rattle.oas_form.proofs.PointPutting.{across_is, up_is, across_short, up_short}
 use Rattle.oas_form.proofs.point_lists.put_step.Goals as goal
 
-pub returns-in_err-across-clause-counts : goal.returns-in_err-across-clause-counts
-unfolding shortest_gdelta
-returns-in_err-across-clause-counts g c =
-    let p = err_from_is_err_and c.from_residual.result c.from_residual.ensures.1 in
-    let x = part_coded c.step-step.result.dx _ c.coded.result c.step-step.ensures.dx (ap (λ (s : GDelta). s.dx) c.step-step.ensures.step) c.coded.ensures in
-    rw (p.1, ← x) (first_fails _ c.in_err-across.ensures.counts)
+pub put_delta-requires-clause-dx : goal.put_delta-requires-clause-dx
+put_delta-requires-clause-dx g c =
+    subst (λ (z : ℤ). nat_abs z ≤ 2 ^ 61) (sym (across_is c.args.from c.args.to c.requires.from c.requires.to)) (across_short c.args.from c.args.to c.requires.from c.requires.to)
 
-pub returns-in_err-up-clause-counts : goal.returns-in_err-up-clause-counts
-unfolding shortest_gdelta
-returns-in_err-up-clause-counts g c =
-    let p = err_from_is_err_and c.from_residual-in_err-up.result c.from_residual-in_err-up.ensures.1 in
-    let x = part_coded c.step-step.result.dx _ c.coded.result c.step-step.ensures.dx (ap (λ (s : GDelta). s.dx) c.step-step.ensures.step) c.coded.ensures in
-    let y = part_coded c.step-step.result.dy _ c.coded-2.result c.step-step.ensures.dy (ap (λ (s : GDelta). s.dy) c.step-step.ensures.step) c.coded-2.ensures in
-    rw (p.1, ← x, ← y) (last_fails (first _ c.in_ok-across.ensures.counts) c.in_err-up.ensures.counts)
+pub put_delta-requires-clause-dy : goal.put_delta-requires-clause-dy
+put_delta-requires-clause-dy g c =
+    subst (λ (z : ℤ). nat_abs z ≤ 2 ^ 61) (sym (up_is c.args.from c.args.to c.requires.from c.requires.to)) (up_short c.args.from c.args.to c.requires.from c.requires.to)
 
 pub returns-clause-counts : goal.returns-clause-counts
-unfolding shortest_gdelta
 returns-clause-counts g c =
-    let x = part_coded c.step-step.result.dx _ c.coded.result c.step-step.ensures.dx (ap (λ (s : GDelta). s.dx) c.step-step.ensures.step) c.coded.ensures in
-    let y = part_coded c.step-step.result.dy _ c.coded-2.result c.step-step.ensures.dy (ap (λ (s : GDelta). s.dy) c.step-step.ensures.step) c.coded-2.ensures in
-    rw (← x, ← y) (ends (first _ c.in_ok-across.ensures.counts) c.in_ok-up.ensures.counts)
+    rw (across_is c.args.from c.args.to c.requires.from c.requires.to, up_is c.args.from c.args.to c.requires.from c.requires.to) at c.put_delta.ensures.counts
