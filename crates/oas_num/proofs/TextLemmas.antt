@@ -154,17 +154,3 @@ padding_done old mid new count (Ok padding) read passed = is_read (with_padding_
 padding_done old mid new count (Err why) read passed =
     let g : FailsPiece padding_parts PaddingTook old why new = second_fails PrefixFree-IsUnsigned read passed in
     keyed_fails padding_length g
-
--- ---- bytes of a class, one after another
-
-of_push : (class : ℕ → Type 0) (bytes : List ℕ) (b : ℕ) → IsOf class bytes → class b → IsOf class (bytes ++ b ∷ [])
-of_push class [] b all is = (is, tt)
-of_push class (x ∷ xs) b all is = (all.0, of_push class xs b all.1 is)
-
--- one more of the bytes is in it
-pub of_more : (class : ℕ → Type 0) (bytes : List ℕ) (i : ℕ) → i < length bytes → IsOf class (take i bytes) → class (slice_index_or bytes i 0) → IsOf class (take (i + 1) bytes)
-of_more class bytes i in_bytes all is = rw (take_more bytes i 0 in_bytes) (of_push class (take i bytes) (slice_index_or bytes i 0) all is)
-
--- and all of them, after the last
-pub of_all : (class : ℕ → Type 0) (bytes : List ℕ) (i : ℕ) → length bytes ≤ i → IsOf class (take i bytes) → IsOf class bytes
-of_all class bytes i over all = rw (take_all i bytes over) at all

@@ -41,7 +41,10 @@ pub fn next_within<S: Source>(class: TextClass, source: &mut S) -> Result<u8, Wh
     Ok(byte)
 }
 
-/// This many bytes of the class. It allocates only for what was read.
+/// For so many bytes memory is reserved before they are read.
+const SHORT: u64 = 64;
+
+/// This many bytes of the class. Beyond the first few it allocates only for what was read.
 pub fn read_text<S: Source>(
     alloc: Global,
     class: TextClass,
@@ -51,6 +54,8 @@ pub fn read_text<S: Source>(
     ensures { ReadsPieceAs (λ text. text.items) (IsText (IsIn class) count) (TextTook (IsIn class) count) (S.script source.old) result (S.script source.new) }
 {
     let mut text = Vec::new(alloc);
+    // Where there is no memory for it, the text grows by itself as far as it can.
+    let _ = text.reserve_exact(count.min(SHORT) as usize);
     for _ in 0..count {
         let byte = next_within(class, source)?;
         text.push(byte)?;
@@ -62,12 +67,12 @@ pub fn read_text<S: Source>(
 pub(crate) fn is_of(class: TextClass, bytes: &[u8]) -> bool
     ensures { IsTrue result ↔ IsOf (IsIn class) bytes.now }
 {
+    let mut all = true;
+    // With no early return many bytes are looked at in one step.
     for byte in bytes {
-        if !class.has(*byte) {
-            return false;
-        }
+        all &= class.has(*byte);
     }
-    true
+    all
 }
 
 /// Writes these bytes over those that are held, in their memory where it is enough. If out of memory they stay.
