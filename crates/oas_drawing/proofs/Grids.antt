@@ -52,7 +52,7 @@ on_coordinate x h = let low = h.0 in let high = h.1 in grind (arith, ints)
 on_point : (p : Point) → IsInRange p → is_grid_point p ≡ true
 on_point p h = (λ i. on_coordinate p.x h.x i && on_coordinate p.y h.y i)
 
-all_on_grid : (ps : List Point) → AllByRecursion IsInRange ps → list_all is_grid_point ps ≡ true
+pub all_on_grid : (ps : List Point) → AllByRecursion IsInRange ps → list_all is_grid_point ps ≡ true
 all_on_grid [] all = refl
 all_on_grid (p ∷ ps) all = (λ i. on_point p all.0 i && all_on_grid ps all.1 i)
 

@@ -1,10 +1,10 @@
 -- Elements as records give them: their order, their weight, and whether they are within the grid.
-use Rattle.std.specs.Prelude.{ℕ, ◌&&◌, Bool, false}
+use Rattle.std.specs.Prelude.{ℕ, ◌&&◌, Bool, true, false}
 use Rattle.std.specs.Ordering.{nat_cmp, int_cmp, bool_cmp}
 use Rattle.std.specs.declared.cmp.Ordering.{Ordering}
 use Rattle.oas_elements.specs.Element.{element_cmp, turn_count, ◌then◌}
 use Rattle.oas_elements.specs.Weight.{weight_of, lacks_points}
-use Rattle.oas_elements.specs.Grid.{is_coordinate, fits_grid}
+use Rattle.oas_elements.specs.Grid.{is_coordinate, points_fit, fits_grid}
 use Rattle.oas_drawing.specs.declared.drawn.Drawn.{Drawn}
 use Rattle.oas_drawing.specs.declared.drawn.Drawn.TheVariants.{Named, PlacementBy, TextBy}
 
@@ -28,6 +28,11 @@ abbrev pub weight_so_far : Drawn → ℕ
 weight_so_far (Named e) = weight_of e
 weight_so_far (PlacementBy number x y turns flip) = 1
 weight_so_far (TextBy number textlayer texttype x y) = 1
+
+-- whether its points, if it has any, are within the grid
+abbrev pub drawn_points_fit : Drawn → Bool
+drawn_points_fit (Named e) = points_fit e
+drawn_points_fit d = true
 
 -- whether it is within the grid, whatever its number means
 abbrev pub drawn_fits : Drawn → Bool

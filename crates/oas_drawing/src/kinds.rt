@@ -1,12 +1,12 @@
 //! Kinds of element records, and each match on them; what is done for a kind stands in its file of src/kinds.
-ghost use Rattle.std.specs.Prelude.{◌≡◌, ℕ, Option, ◌≢◌, ◌≤◌, ◌^◌, ◌⊎◌, None, Some, IfOk, IfErr, IfSome};
+ghost use Rattle.std.specs.Prelude.{◌≡◌, ℕ, Option, ◌≢◌, ◌≤◌, ◌^◌, ◌⊎◌, true, None, Some, IfOk, IfErr, IfSome};
 ghost use Rattle.std.specs.Option.{option_map};
 ghost use Rattle.oas_num.specs.declared.refusals.Why.TheVariants.{Memory};
 ghost use Rattle.oas_num.specs.Deltas.{step};
 ghost use Rattle.oas_ring.specs.declared.point.Point.{Point as OnePoint};
 ghost use Rattle.oas_drawing.specs.Positions.{IsNear};
 ghost use Rattle.oas_drawing.specs.Modal.{stepped};
-ghost use Rattle.oas_drawing.specs.Drawn.{weight_so_far};
+ghost use Rattle.oas_drawing.specs.Drawn.{weight_so_far, drawn_points_fit};
 ghost use Rattle.oas_drawing.specs.Drawing.{kind_of, repeats, is_geometry, kind_at, drawn_by};
 ghost use Rattle.oas_drawing.specs.GivenFields.{no_spot, given_fields, with_geometry};
 ghost use Rattle.oas_record.specs.declared.spots.Spot.{Spot as OneSpot};
@@ -213,6 +213,7 @@ impl ModalVariables {
     ) -> Result<Drawn, Why>
         ensures ok { IfOk result (λ d. drawn_by self.now kind.now (step by.0 by.1) ≡ Some d) }
         ensures err { IfErr result (λ why. ((why ≡ Memory) × MayRunOut (drawn_by self.now kind.now (step by.0 by.1))) ⊎ (fault_of (drawn_by self.now kind.now (step by.0 by.1)) ≡ Some why)) }
+        ensures points { IfOk result (λ d. drawn_points_fit d ≡ true) }
     {
         match kind {
             Kind::Placement { turn, flip } => self.placement_by(alloc, turned(*turn), *flip, by),

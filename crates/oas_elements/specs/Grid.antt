@@ -1,5 +1,5 @@
 -- Which elements are within the grid.
-use Rattle.std.specs.Prelude.{ℕ, ℤ, pos, negsuc, ◌-◌, ◌^◌, ◌+ℤ◌, Bool, ◌&&◌, nat_le, not}
+use Rattle.std.specs.Prelude.{ℕ, ℤ, pos, negsuc, ◌-◌, ◌^◌, ◌+ℤ◌, Bool, true, ◌&&◌, nat_le, not}
 use Rattle.std.specs.Prelude.{int_lt}
 use Rattle.std.specs.List.{list_all}
 use Rattle.oas_ring.specs.declared.point.Point.{Point}
@@ -17,6 +17,12 @@ reaches x side = is_coordinate x && is_coordinate (x +ℤ pos side)
 -- both parts are coordinates
 abbrev pub is_grid_point : Point → Bool
 is_grid_point p = is_coordinate p.x && is_coordinate p.y
+
+-- the points of a polygon or a path are within the grid
+abbrev pub points_fit : Element → Bool
+points_fit (Polygon layer datatype points) = list_all is_grid_point points
+points_fit (Path layer datatype half_width start end points) = list_all is_grid_point points
+points_fit _ = true
 
 -- positions, points, far corners and extensions are coordinates, and half-widths and radii at most 2^60
 abbrev pub fits_grid : Element → Bool

@@ -1,5 +1,5 @@
 -- When two elements are the same under a profile, and the form in which an element is kept.
-use Rattle.std.specs.Prelude.{◌≡◌, ℕ, ℤ, pos, ◌+ℤ◌, ◌-ℤ◌, unsigned_abs, Bool, false, ◌==◌, ◌&&◌, List, Option, None, Some}
+use Rattle.std.specs.Prelude.{◌≡◌, ◌<◌, ℕ, ℤ, pos, length, ◌+ℤ◌, ◌-ℤ◌, unsigned_abs, Bool, false, ◌==◌, ◌&&◌, List, Option, None, Some}
 use Rattle.std.specs.Ordering.{eq_by_cmp}
 use Rattle.oas_ring.specs.declared.point.Point.{Point}
 use Rattle.oas_ring.specs.declared.rectangles.Corners.{Corners}
@@ -10,7 +10,9 @@ use Rattle.oas_elements.specs.declared.profile.Profile.TheVariants.{One, Two}
 use Rattle.oas_elements.specs.declared.element.Element.{Element}
 use Rattle.oas_elements.specs.declared.element.Element.TheVariants.{Rectangle, Polygon}
 use Rattle.oas_elements.specs.Element.{element_cmp}
-use Rattle.oas_ring.specs.Readings.{is_same_ring, least_of}
+use Rattle.oas_elements.specs.declared.kept.KeptPolygon.{KeptPolygon}
+use Rattle.oas_elements.specs.declared.kept.KeptPolygon.TheVariants.{Box, Ring}
+use Rattle.oas_ring.specs.Readings.{is_same_ring, least_of, reading_of}
 
 -- the corners of a rectangle
 abbrev pub rectangle_corners : ℕ → ℕ → ℤ → ℤ → Corners
@@ -68,3 +70,13 @@ normal profile e = e
 -- the element is in the form in which it is kept
 abbrev pub IsNormal : Profile → Element → Type 0
 IsNormal profile e = normal profile e ≡ e
+
+-- the element that a polygon with these points is kept as
+abbrev pub kept_as : ℕ → ℕ → List Point → KeptPolygon → Element
+kept_as layer datatype points (Box corners) = rectangle_of layer datatype corners
+kept_as layer datatype points (Ring reading) = Polygon layer datatype (reading_of points reading)
+
+-- a reading begins at one of these points
+abbrev pub ReadsWithin : List Point → KeptPolygon → Type 0
+ReadsWithin points (Box corners) = Unit {0}
+ReadsWithin points (Ring reading) = reading.start < length points

@@ -1,8 +1,8 @@
 //! The grid, and which elements are within it.
 
-ghost use Rattle.std.specs.Prelude.{◌≡◌};
+ghost use Rattle.std.specs.Prelude.{◌≡◌, true};
 ghost use Rattle.std.specs.List.{list_all};
-ghost use Rattle.oas_elements.specs.Grid.{is_coordinate, reaches, is_grid_point, fits_grid};
+ghost use Rattle.oas_elements.specs.Grid.{is_coordinate, reaches, is_grid_point, points_fit, fits_grid};
 
 use crate::element::Element;
 use oas_ring::Point;
@@ -43,6 +43,23 @@ impl Element {
             Element::Circle { radius, x, y, .. } => {
                 *radius <= GRID && is_coordinate(*x) && is_coordinate(*y)
             }
+        }
+    }
+
+    /// Whether all of it is within the grid, where its points are known to be: they aren't looked at again.
+    pub fn fits_beside_points(&self) -> bool
+        requires { points_fit self.now ≡ true }
+        ensures { result ≡ fits_grid self.now }
+    {
+        match self {
+            Element::Polygon { .. } => true,
+            Element::Path {
+                half_width,
+                start,
+                end,
+                ..
+            } => *half_width <= GRID && is_coordinate(*start) && is_coordinate(*end),
+            _ => self.fits_grid(),
         }
     }
 }

@@ -7,7 +7,8 @@
 //! - Two elements are the same (`SameElement`, specs/Same.antt) where kind and fields are equal, with two exceptions. A
 //!   polygon is a ring: it may begin anywhere and run in either direction. And under [`Profile::Two`] a polygon that goes
 //!   round a rectangle is that rectangle. Each element has one form in which it is kept (`normal`), and two elements are the
-//!   same exactly if their kept forms are equal.
+//!   same exactly if their kept forms are equal. [`kept_ring`] says what a polygon is kept as from its points alone, with no
+//!   memory.
 //! - A layout is a unit, and for each cell name a multiset of elements (`Meaning`, specs/Meaning.antt). Two are the same
 //!   (`SameLayout`) if they have one unit, the same cell names, and in each cell the same count of each element. The
 //!   definition uses no kept form and no order.
@@ -62,6 +63,7 @@ mod sound;
 
 pub use counts::count_up;
 pub use element::{Element, Turns};
+pub use kept::{KeptPolygon, kept_ring};
 pub use kinds::{Extensions, Layer};
 pub use limits::Limits;
 pub use profile::Profile;

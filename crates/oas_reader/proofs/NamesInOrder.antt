@@ -1,5 +1,5 @@
 -- Names with the numbers 0, 1, 2, .. in a list, and all others with their numbers.
-use Rattle.std.proofs.Common.{◌≡◌, ℕ, zero, suc, ◌+◌, ◌<◌, ◌≤◌, ◌^◌, List, [], ◌∷◌, ◌++◌, length, refl, sym, ◌∙◌, ap, subst, arith, Option, Some, None, length-append}
+use Rattle.std.proofs.Common.{◌≡◌, ℕ, zero, suc, ◌+◌, ◌<◌, ◌≤◌, ◌^◌, List, [], ◌∷◌, ◌++◌, length, drop, refl, sym, ◌∙◌, ap, subst, arith, Option, Some, None, length-append}
 use Rattle.std.specs.Prelude.{nat_eq, slice_set, slice_index_or}
 use Rattle.std.specs.Ordering.{nat_cmp, match_ordering}
 use Rattle.std.specs.declared.cmp.Ordering.TheVariants.{Less, Equal, Greater}
@@ -46,6 +46,16 @@ module _ {S : Type 0} where
 
   pub count_all : (ss : List S) (others : List (ℕ × S)) → length (numbered 0 ss ++ others) ≡ length ss + length others
   count_all ss others = count_from 0 ss others
+
+  rest_from : (first : ℕ) (ss : List S) (others : List (ℕ × S)) → drop (length ss) (numbered first ss ++ others) ≡ others
+  rest_from first [] others = refl
+  rest_from first (s ∷ ss) others = rest_from (first + 1) ss others
+
+  -- those in order, and then the others
+  pub front_of_all : (t : Table S) (numbering : Option Numbering) (ss : List S) (others : List (ℕ × S)) → record { numbering = numbering; named = numbered 0 ss ++ others } ≡ t
+      → numbered 0 ss ++ drop (length ss) t.named ≡ t.named
+  front_of_all t numbering ss others view =
+      subst (λ (x : Table S). numbered 0 ss ++ drop (length ss) x.named ≡ x.named) view (ap (λ (xs : List (ℕ × S)). numbered 0 ss ++ xs) (rest_from 0 ss others))
 
   -- ---- one string more
 

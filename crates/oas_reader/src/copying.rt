@@ -6,7 +6,7 @@ ghost use Rattle.oas_shape.specs.Steps.{still};
 ghost use Rattle.oas_drawing.specs.Drawing.{drawn_by, number_if, offset_if};
 ghost use Rattle.oas_drawing.specs.Reasons.{weight_if, lacks_if, fault_of};
 ghost use Rattle.oas_reader.specs.Stores.{Draws};
-ghost use Rattle.oas_reader.specs.Copying.{first_copies};
+ghost use Rattle.oas_reader.specs.Copying.{first_copies, drawn_times};
 
 use crate::stores::CellStore;
 use oas_drawing::{Kind, ModalVariables};
@@ -30,6 +30,9 @@ pub(crate) fn hold_copies<S: CellStore>(
     ensures fit { OnOk result ((i : ℕ) → i < number_if repeated modal.now.repetition → fault_of (drawn_by modal.now kind.now (offset_if repeated modal.now.repetition i)) ≡ None) }
     ensures err { IfErr result (λ why. (why ≡ Memory) ⊎ ((i : ℕ) × (i < number_if repeated modal.now.repetition) × (fault_of (drawn_by modal.now kind.now (offset_if repeated modal.now.repetition i)) ≡ Some why))) }
 {
+    if !repeated {
+        return hold_one(alloc, modal, held, kind);
+    }
     let places = modal.places(repeated);
     let mut weight = 0;
     for j in 0..places.number {
@@ -44,4 +47,23 @@ pub(crate) fn hold_copies<S: CellStore>(
         weight += one * places.copies;
     }
     Ok(weight)
+}
+
+/// Draws the element of a record without a repetition, and returns its weight. It isn't inlined beside the loop over places, so
+/// that it has nothing to save for it.
+#[inline(never)]
+fn hold_one<S: CellStore>(
+    alloc: Global,
+    modal: &ModalVariables,
+    held: &mut S,
+    kind: &Kind,
+) -> Result<u64, Why>
+    requires room { S.store.count held.old ≤ 2 ^ 26 }
+    requires points { lacks_if (drawn_by modal.now kind.now still) ≡ false }
+    ensures weight { IfOk result (λ weight. weight ≡ weight_if (drawn_by modal.now kind.now still)) }
+    ensures held { OnOk result (Draws S.store held.old (drawn_times 1 (drawn_by modal.now kind.now still)) held.new) }
+    ensures fits { OnOk result (fault_of (drawn_by modal.now kind.now still) ≡ None) }
+    ensures err { IfErr result (λ why. (why ≡ Memory) ⊎ (fault_of (drawn_by modal.now kind.now still) ≡ Some why)) }
+{
+    held.draw_copy(alloc, modal, kind, false, 0, 1)
 }

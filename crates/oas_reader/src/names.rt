@@ -1,11 +1,12 @@
 //! Numbers for names.
 
-ghost use Rattle.std.specs.Prelude.{◌≡◌, ◌⊎◌, length, unwrap_or, Some, None, OnOk, OnErr, IfErr};
+ghost use Rattle.std.specs.Prelude.{◌≡◌, ◌⊎◌, ◌++◌, drop, length, unwrap_or, Some, None, OnOk, OnErr, IfErr};
 ghost use Rattle.std.specs.Option.{option_copied};
 ghost use Rattle.std.specs.Ordering.{nat_cmp};
 ghost use Rattle.std.specs.BTreeMap.{insert_entry};
 ghost use Rattle.oas_num.specs.declared.refusals.Why.TheVariants.{Memory};
 ghost use Rattle.oas_reader.specs.Names.{numbering_given, name_of, is_other, no_names, table_reason, with_name};
+ghost use Rattle.oas_reader.specs.NamesInOrder.{numbered};
 
 use oas_num::Why;
 use std::alloc::Global;
@@ -80,6 +81,13 @@ impl<S: PartialEq + Drop> NameTable<S> {
             Some(string) => Some(string),
             None => self.others.get(&number),
         }
+    }
+
+    /// The strings of the numbers 0, 1, 2, .., of those that were named in this order.
+    pub fn in_order(&self) -> &[S]
+        ensures { numbered 0 result.now ++ drop (length result.now) self.now.named ≡ self.now.named }
+    {
+        &self.in_order
     }
 
     /// Takes a name record: a string, and its number where it gives one, or else the next one of its class, from 0 on.

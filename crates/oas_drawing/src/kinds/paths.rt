@@ -1,5 +1,5 @@
 //! Paths: what one sets, weighs and draws.
-ghost use Rattle.std.specs.Prelude.{◌≡◌, ◌≤◌, ◌^◌, ◌⊎◌, Some, IfOk, IfErr, IfSome};
+ghost use Rattle.std.specs.Prelude.{◌≡◌, ◌≤◌, ◌^◌, ◌⊎◌, true, Some, IfOk, IfErr, IfSome};
 ghost use Rattle.std.specs.Option.{option_map};
 ghost use Rattle.oas_num.specs.declared.refusals.Why.TheVariants.{Memory};
 ghost use Rattle.oas_num.specs.Deltas.{step};
@@ -8,7 +8,7 @@ ghost use Rattle.oas_record.specs.declared.records.Record.{Record as OneRecord};
 ghost use Rattle.oas_drawing.specs.Positions.{IsNear};
 ghost use Rattle.oas_drawing.specs.Values.{extension_number, start_number, end_number};
 ghost use Rattle.oas_drawing.specs.Modal.{stepped};
-ghost use Rattle.oas_drawing.specs.Drawn.{weight_so_far};
+ghost use Rattle.oas_drawing.specs.Drawn.{weight_so_far, drawn_points_fit};
 ghost use Rattle.oas_drawing.specs.Drawing.{path_at, point_from};
 ghost use Rattle.oas_drawing.specs.Reasons.{fault_of, MayRunOut};
 ghost use Rattle.oas_drawing.specs.Tallies.{IsTallied};
@@ -86,6 +86,7 @@ impl ModalVariables {
     pub(crate) fn path_by(&self, alloc: Global, by: (i128, i128)) -> Result<Drawn, Why>
         ensures ok { IfOk result (λ d. path_at self.now.layer self.now.datatype self.now.half_width self.now.start self.now.end self.now.path_points (point_from self.now.geometry (step by.0 by.1)) ≡ Some d) }
         ensures err { IfErr result (λ why. ((why ≡ Memory) × MayRunOut (path_at self.now.layer self.now.datatype self.now.half_width self.now.start self.now.end self.now.path_points (point_from self.now.geometry (step by.0 by.1)))) ⊎ (fault_of (path_at self.now.layer self.now.datatype self.now.half_width self.now.start self.now.end self.now.path_points (point_from self.now.geometry (step by.0 by.1))) ≡ Some why)) }
+        ensures points { IfOk result (λ d. drawn_points_fit d ≡ true) }
     {
         let (Some(layer), Some(datatype), Some(half_width)) = (
             self.layer,

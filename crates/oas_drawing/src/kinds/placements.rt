@@ -1,5 +1,5 @@
 //! Placements: what one sets, weighs and draws.
-ghost use Rattle.std.specs.Prelude.{◌≡◌, ◌≤◌, ◌^◌, ◌⊎◌, Bool, Some, IfOk, IfErr, IfSome};
+ghost use Rattle.std.specs.Prelude.{◌≡◌, ◌≤◌, ◌^◌, ◌⊎◌, Bool, true, Some, IfOk, IfErr, IfSome};
 ghost use Rattle.std.specs.Option.{option_map};
 ghost use Rattle.oas_num.specs.declared.refusals.Why.TheVariants.{Memory};
 ghost use Rattle.oas_num.specs.Deltas.{step};
@@ -8,7 +8,7 @@ ghost use Rattle.oas_record.specs.declared.records.Record.{Record as OneRecord};
 ghost use Rattle.oas_elements.specs.declared.element.Turns.{Turns};
 ghost use Rattle.oas_drawing.specs.Positions.{IsNear};
 ghost use Rattle.oas_drawing.specs.Modal.{stepped};
-ghost use Rattle.oas_drawing.specs.Drawn.{weight_so_far};
+ghost use Rattle.oas_drawing.specs.Drawn.{weight_so_far, drawn_points_fit};
 ghost use Rattle.oas_drawing.specs.Drawing.{placement_at, point_from};
 ghost use Rattle.oas_drawing.specs.Reasons.{fault_of, MayRunOut};
 ghost use Rattle.oas_drawing.specs.Tallies.{IsTallied};
@@ -56,6 +56,7 @@ impl ModalVariables {
     ) -> Result<Drawn, Why>
         ensures ok { IfOk result (λ d. placement_at self.now.cell turns flip (point_from self.now.placement (step by.0 by.1)) ≡ Some d) }
         ensures err { IfErr result (λ why. ((why ≡ Memory) × MayRunOut (placement_at self.now.cell turns flip (point_from self.now.placement (step by.0 by.1)))) ⊎ (fault_of (placement_at self.now.cell turns flip (point_from self.now.placement (step by.0 by.1))) ≡ Some why)) }
+        ensures points { IfOk result (λ d. drawn_points_fit d ≡ true) }
     {
         let Some(cell) = &self.cell else {
             return Err(Why::ModalUndefined);

@@ -1,5 +1,5 @@
 //! Polygons: what one sets, weighs and draws.
-ghost use Rattle.std.specs.Prelude.{◌≡◌, ◌≤◌, ◌^◌, ◌⊎◌, Some, IfOk, IfErr, IfSome};
+ghost use Rattle.std.specs.Prelude.{◌≡◌, ◌≤◌, ◌^◌, ◌⊎◌, true, Some, IfOk, IfErr, IfSome};
 ghost use Rattle.std.specs.Option.{option_map};
 ghost use Rattle.oas_num.specs.declared.refusals.Why.TheVariants.{Memory};
 ghost use Rattle.oas_num.specs.Deltas.{step};
@@ -7,7 +7,7 @@ ghost use Rattle.oas_ring.specs.declared.point.Point.{Point as OnePoint};
 ghost use Rattle.oas_record.specs.declared.records.Record.{Record as OneRecord};
 ghost use Rattle.oas_drawing.specs.Positions.{IsNear};
 ghost use Rattle.oas_drawing.specs.Modal.{stepped};
-ghost use Rattle.oas_drawing.specs.Drawn.{weight_so_far};
+ghost use Rattle.oas_drawing.specs.Drawn.{weight_so_far, drawn_points_fit};
 ghost use Rattle.oas_drawing.specs.Drawing.{polygon_at, point_from};
 ghost use Rattle.oas_drawing.specs.Reasons.{fault_of, MayRunOut};
 ghost use Rattle.oas_drawing.specs.Tallies.{IsTallied};
@@ -46,6 +46,7 @@ impl ModalVariables {
     pub(crate) fn polygon_by(&self, alloc: Global, by: (i128, i128)) -> Result<Drawn, Why>
         ensures ok { IfOk result (λ d. polygon_at self.now.layer self.now.datatype self.now.polygon_points (point_from self.now.geometry (step by.0 by.1)) ≡ Some d) }
         ensures err { IfErr result (λ why. ((why ≡ Memory) × MayRunOut (polygon_at self.now.layer self.now.datatype self.now.polygon_points (point_from self.now.geometry (step by.0 by.1)))) ⊎ (fault_of (polygon_at self.now.layer self.now.datatype self.now.polygon_points (point_from self.now.geometry (step by.0 by.1))) ≡ Some why)) }
+        ensures points { IfOk result (λ d. drawn_points_fit d ≡ true) }
     {
         let (Some(layer), Some(datatype), Some(points)) = (
             self.layer,

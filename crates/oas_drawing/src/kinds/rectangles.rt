@@ -1,5 +1,5 @@
 //! Rectangles: what one sets, weighs and draws; and, for one without a repetition, `copies` and `copy` together.
-ghost use Rattle.std.specs.Prelude.{◌≡◌, ◌≤◌, ◌^◌, false, None, Some, IfOk, IfErr, IfSome, OnOk};
+ghost use Rattle.std.specs.Prelude.{◌≡◌, ◌≤◌, ◌^◌, false, true, None, Some, IfOk, IfErr, IfSome, OnOk};
 ghost use Rattle.std.specs.Option.{option_map};
 ghost use Rattle.oas_num.specs.Deltas.{step};
 ghost use Rattle.oas_ring.specs.declared.point.Point.{Point as OnePoint};
@@ -8,7 +8,7 @@ ghost use Rattle.oas_record.specs.declared.records.Record.{Record as OneRecord};
 ghost use Rattle.oas_drawing.specs.declared.kinds.Kind.{Kind as OneKind};
 ghost use Rattle.oas_drawing.specs.Positions.{IsNear};
 ghost use Rattle.oas_drawing.specs.Modal.{stepped};
-ghost use Rattle.oas_drawing.specs.Drawn.{weight_so_far};
+ghost use Rattle.oas_drawing.specs.Drawn.{weight_so_far, drawn_points_fit};
 ghost use Rattle.oas_drawing.specs.Drawing.{drawn_by, rectangle_at, point_from};
 ghost use Rattle.oas_drawing.specs.Reasons.{fault_of, kind_reason, reason_if};
 
@@ -53,6 +53,7 @@ impl ModalVariables {
     pub(crate) fn rectangle_by(&self, by: (i128, i128)) -> Result<Drawn, Why>
         ensures ok { IfOk result (λ d. rectangle_at self.now.layer self.now.datatype self.now.width self.now.height (point_from self.now.geometry (step by.0 by.1)) ≡ Some d) }
         ensures err { IfErr result (λ why. fault_of (rectangle_at self.now.layer self.now.datatype self.now.width self.now.height (point_from self.now.geometry (step by.0 by.1))) ≡ Some why) }
+        ensures points { IfOk result (λ d. drawn_points_fit d ≡ true) }
     {
         let (Some(layer), Some(datatype), Some(width), Some(height)) = (
             self.layer,

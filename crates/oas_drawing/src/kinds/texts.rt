@@ -1,5 +1,5 @@
 //! Texts: what one sets, weighs and draws.
-ghost use Rattle.std.specs.Prelude.{◌≡◌, ◌≤◌, ◌^◌, ◌⊎◌, Some, IfOk, IfErr, IfSome};
+ghost use Rattle.std.specs.Prelude.{◌≡◌, ◌≤◌, ◌^◌, ◌⊎◌, true, Some, IfOk, IfErr, IfSome};
 ghost use Rattle.std.specs.Option.{option_map};
 ghost use Rattle.oas_num.specs.declared.refusals.Why.TheVariants.{Memory};
 ghost use Rattle.oas_num.specs.Deltas.{step};
@@ -7,7 +7,7 @@ ghost use Rattle.oas_ring.specs.declared.point.Point.{Point as OnePoint};
 ghost use Rattle.oas_record.specs.declared.records.Record.{Record as OneRecord};
 ghost use Rattle.oas_drawing.specs.Positions.{IsNear};
 ghost use Rattle.oas_drawing.specs.Modal.{stepped};
-ghost use Rattle.oas_drawing.specs.Drawn.{weight_so_far};
+ghost use Rattle.oas_drawing.specs.Drawn.{weight_so_far, drawn_points_fit};
 ghost use Rattle.oas_drawing.specs.Drawing.{text_at, point_from};
 ghost use Rattle.oas_drawing.specs.Reasons.{fault_of, MayRunOut};
 ghost use Rattle.oas_drawing.specs.Tallies.{IsTallied};
@@ -53,6 +53,7 @@ impl ModalVariables {
     pub(crate) fn text_by(&self, alloc: Global, by: (i128, i128)) -> Result<Drawn, Why>
         ensures ok { IfOk result (λ d. text_at self.now.string self.now.textlayer self.now.texttype (point_from self.now.text (step by.0 by.1)) ≡ Some d) }
         ensures err { IfErr result (λ why. ((why ≡ Memory) × MayRunOut (text_at self.now.string self.now.textlayer self.now.texttype (point_from self.now.text (step by.0 by.1)))) ⊎ (fault_of (text_at self.now.string self.now.textlayer self.now.texttype (point_from self.now.text (step by.0 by.1))) ≡ Some why)) }
+        ensures points { IfOk result (λ d. drawn_points_fit d ≡ true) }
     {
         let (Some(string), Some(textlayer), Some(texttype)) = (
             &self.string,

@@ -1,8 +1,8 @@
 //! The copies of a record, by the modal variables after it: their places, and each of them.
-ghost use Rattle.std.specs.Prelude.{◌≡◌, ◌<◌, ◌^◌, ◌⊎◌, None, Some, IfOk, IfErr};
+ghost use Rattle.std.specs.Prelude.{◌≡◌, ◌<◌, ◌^◌, ◌⊎◌, true, None, Some, IfOk, IfErr};
 ghost use Rattle.oas_num.specs.declared.refusals.Why.TheVariants.{Memory};
 ghost use Rattle.oas_num.specs.Deltas.{step};
-ghost use Rattle.oas_drawing.specs.Drawn.{drawn_fits};
+ghost use Rattle.oas_drawing.specs.Drawn.{drawn_points_fit, drawn_fits};
 ghost use Rattle.oas_drawing.specs.Drawing.{number_if, offset_if, places_if, drawn_by};
 ghost use Rattle.oas_drawing.specs.Reasons.{fault_of, MayRunOut};
 ghost use Rattle.oas_drawing.specs.Tallies.{IsTallied};
@@ -16,12 +16,14 @@ use oas_num::Why;
 use oas_shape::Places;
 use std::alloc::Global;
 
-/// Whether an element is within the grid, whatever its number means.
+/// Whether an element is within the grid, whatever its number means. Its points are known to be: they were checked as they
+/// were made.
 fn fits(drawn: &Drawn) -> bool
+    requires { drawn_points_fit drawn.now ≡ true }
     ensures { result ≡ drawn_fits drawn.now }
 {
     match drawn {
-        Drawn::Named(element) => element.fits_grid(),
+        Drawn::Named(element) => element.fits_beside_points(),
         Drawn::PlacementBy { x, y, .. } | Drawn::TextBy { x, y, .. } => {
             coordinate(i128::from(*x)).is_some() && coordinate(i128::from(*y)).is_some()
         }
@@ -30,6 +32,7 @@ fn fits(drawn: &Drawn) -> bool
 
 /// What an element that is drawn counts for, where it is within the grid. It is refused with `CoordinateRange`.
 pub(crate) fn tally_within(drawn: &Drawn) -> Result<Tally, Why>
+    requires { drawn_points_fit drawn.now ≡ true }
     ensures ok { IfOk result (λ t. IsTallied (Some drawn.now) t) }
     ensures err { IfErr result (λ why. fault_of (Some drawn.now) ≡ Some why) }
 {

@@ -49,7 +49,7 @@ pub(crate) fn point_by(at: Position, by: (i128, i128)) -> Result<Point, Why>
 
 /// The vertices of a point list at a position that is moved this far. They are refused with `CoordinateRange`, or it fails
 /// with `Memory`.
-#[tactic(auto, using(crate::proofs::Grids::in_range, crate::proofs::Grids::vertices_fault, crate::proofs::Grids::off_vertices))]
+#[tactic(auto, using(crate::proofs::Grids::in_range, crate::proofs::Grids::all_on_grid, crate::proofs::Grids::vertices_fault, crate::proofs::Grids::off_vertices))]
 pub(crate) fn points_by(
     alloc: Global,
     points: &PointList,
@@ -57,6 +57,7 @@ pub(crate) fn points_by(
     by: (i128, i128),
 ) -> Result<Points, Why>
     ensures ok { IfOk result (λ ps. ps ≡ vertices_of points.now (point_from at (step by.0 by.1))) }
+    ensures near { IfOk result (λ ps. list_all is_grid_point ps ≡ true) }
     ensures err { IfErr result (λ why. (why ≡ Memory) ⊎ ((why ≡ CoordinateRange) × (list_all is_grid_point (vertices_of points.now (point_from at (step by.0 by.1))) ≡ false))) }
 {
     let at = point_by(at, by)?;

@@ -1,5 +1,4 @@
 use Rattle.std.proofs.Common.{ap, ◌∙◌}
-use Rattle.std.specs.Prelude.{Option}
 use Rattle.oas_reader.proofs.SeriesLemmas.{room_kept, lands_kept, series_ok}
 use Rattle.oas_reader.proofs.reader.Reader.take_series.Goals as goal
 
