@@ -1,10 +1,10 @@
 -- What begins with a byte of a short number, and how that is read.
-use Rattle.std.proofs.Common.{◌≡◌, ℕ, ◌+◌, ◌-◌, ◌*◌, ◌^◌, ◌<◌, ◌≤◌, List, [], ◌∷◌, ◌++◌, length, take, drop, refl, sym, ap, ◌∙◌, arith}
+use Rattle.std.proofs.Common.{◌≡◌, ℕ, suc, get_or, ◌+◌, ◌-◌, ◌*◌, ◌^◌, ◌<◌, ◌≤◌, List, [], ◌∷◌, ◌++◌, length, take, drop, refl, sym, ap, ◌∙◌, arith}
 use Rattle.std.proofs.lemmas.Bool.{lt-ltb, cond-true, cond-false, le-ltb}
 use Rattle.oas_keys.specs.declared.classes.Class.{Class}
 use Rattle.oas_keys.specs.Numbers.{number_in, AreClasses, unsigned_classes, signed_classes, full, single}
 use Rattle.oas_keys.specs.Reading.{joined_digits, least_with, more_with}
-use Rattle.oas_keys.proofs.ReadingLemmas.{reads}
+use Rattle.oas_keys.proofs.ReadingLemmas.{reads, never_empty}
 
 -- the unsigned classes from that of two bytes on, and from those of three and four
 abbrev pub twos : List Class
@@ -155,6 +155,27 @@ behind cs n first least more rest after fits small is b =
       rest_is = (λ i. drop (sym f i) after) ∙ h.rest_is;
     }
 
--- what was begun, with its first byte as a number
-pub begun : (bytes other after : List ℕ) (first byte : ℕ) → bytes ≡ byte ∷ after → first ≡ byte → bytes ≡ other → first ∷ after ≡ other
-begun bytes other after first byte was same is = ap (λ (b : ℕ). b ∷ after) same ∙ sym was ∙ is
+-- bytes with a number in front, by their first
+pub headed : (cs : List Class) (n first : ℕ) (rest bytes : List ℕ) → bytes ≡ number_in cs 1 n ++ rest → first ≡ get_or bytes 0 0
+    → (0 < length bytes) × (first ∷ drop 1 bytes ≡ number_in cs 1 n ++ rest)
+headed cs n first rest [] is was = absurd (never_empty cs n [] rest is refl)
+headed cs n first rest (byte ∷ after) is was = (omega arith, ap (λ (t : ℕ). t ∷ after) was ∙ is)
+
+-- how such a number is read from them
+pub record Front (least more n : ℕ) (rest bytes : List ℕ) : Type 0 where
+  pub long : more + 1 ≤ length bytes
+  pub number : least + joined_digits 0 (take more (drop 1 bytes)) ≡ n
+  pub rest_is : drop (suc more) bytes ≡ rest
+
+pub front : (cs : List Class) (n first least more : ℕ) (rest bytes : List ℕ) → AreClasses cs → n < 2 ^ 64 → bytes ≡ number_in cs 1 n ++ rest
+    → first ≡ get_or bytes 0 0 → Begin cs 1 first least more → Front least more n rest bytes
+front cs n first least more rest [] fits small is was b = absurd (never_empty cs n [] rest is refl)
+front cs n first least more rest (byte ∷ after) fits small is was b =
+    let h = behind cs n first least more rest after fits small (headed cs n first rest (byte ∷ after) is was).1 b in
+    let long = h.some.1 in
+    record { long = omega arith; number = h.number; rest_is = h.rest_is }
+
+-- its first byte isn't 0
+pub first_some : (cs : List Class) (n first : ℕ) (rest bytes : List ℕ) → AreClasses cs → n < 2 ^ 64 → bytes ≡ number_in cs 1 n ++ rest
+    → first ≡ get_or bytes 0 0 → 1 ≤ first
+first_some cs n first rest bytes fits small is was = (reads cs n first _ rest (drop 1 bytes) fits small (headed cs n first rest bytes is was).1 refl).some

@@ -8,3 +8,4 @@ pub mod ReadingLemmas
 pub mod PointLemmas
 pub mod SignedLemmas
 pub mod PlaceLemmas
+pub mod StepLemmas

@@ -1,7 +1,7 @@
 -- What strings and lists of points are read as.
-use Rattle.std.proofs.Common.{◌≡◌, ℕ, suc, ◌+◌, ◌<◌, ◌≤◌, ◌^◌, nat_eq, cond, true, false, ℤ, pos, negsuc, ◌-ℤ◌, ◌+ℤ◌, ◌≤ℤ◌, List, [], ◌∷◌, ◌++◌, length, take, drop, get_or, ◌-◌, w64, to_z, of_z, FitsSigned, refl, sym, ap, ◌∙◌, ◌⊎◌, inl, inr, arith, append_assoc}
+use Rattle.std.proofs.Common.{zero, ◌≡◌, IsTrue, ◌&&◌, not, Bool, slice_index_or, ℕ, suc, ◌+◌, ◌<◌, ◌≤◌, ◌^◌, nat_eq, cond, true, false, ℤ, pos, negsuc, ◌-ℤ◌, ◌+ℤ◌, ◌≤ℤ◌, List, [], ◌∷◌, ◌++◌, length, take, drop, get_or, ◌-◌, w64, to_z, of_z, FitsSigned, refl, sym, ap, ◌∙◌, ◌⊎◌, inl, inr, arith, append_assoc}
 use Rattle.std.proofs.lemmas.Bool.Decides.{nat_tests}
-use Rattle.std.proofs.lemmas.List.{length-append}
+use Rattle.std.proofs.lemmas.List.{length-append, length-take-le, take-append-drop, take_more, take_all}
 use Rattle.std.proofs.Math.Seq.{take-append_seam, drop-append_seam}
 use Rattle.oas_ring.specs.declared.point.Point.{Point}
 use Rattle.oas_elements.specs.Grid.{is_coordinate, is_grid_point}
@@ -14,16 +14,61 @@ use Rattle.oas_keys.specs.Laws.FieldLaws.{NoZero, AreWithin, parts, step_within,
 
 -- ---- a string
 
+no_zero : (n : ℕ) → 0 < n → nat_eq n 0 ≡ false
+no_zero n h = grind (arith, nat_tests)
+
 -- it ends at the first 0
 len_is : (bytes rest : List ℕ) → NoZero bytes → text_len (bytes ++ 0 ∷ rest) ≡ length bytes
 len_is [] rest h = refl
 len_is (b ∷ bs) rest h =
-    let no : nat_eq b 0 ≡ false = some_byte b h.0 in
+    let no : nat_eq b 0 ≡ false = no_zero b h.0 in
     let more = len_is bs rest h.1 in
     ap (λ t. cond t 0 (1 + text_len (bs ++ 0 ∷ rest))) no ∙ omega arith
+
+free_both : (xs ys : List ℕ) → NoZero xs → NoZero ys → NoZero (xs ++ ys)
+free_both [] ys free others = others
+free_both (x ∷ xs) ys free others = (free.0, free_both xs ys free.1 others)
+
+-- one more byte isn't 0 either
+pub still_free : (none : Bool) (bytes : List ℕ) (i : ℕ) → i < length bytes → (IsTrue none → NoZero (take i bytes)) → IsTrue (none && not (nat_eq (slice_index_or bytes i 0) 0)) → NoZero (take (i + 1) bytes)
+still_free true bytes i inside free is =
+    rw (take_more bytes i 0 inside) (free_both (take i bytes) (slice_index_or bytes i 0 ∷ []) (free refl) (some (slice_index_or bytes i 0) is, tt))
   where
-    some_byte : (n : ℕ) → 0 < n → nat_eq n 0 ≡ false
-    some_byte n h = grind (arith, nat_tests)
+    some : (n : ℕ) → IsTrue (not (nat_eq n 0)) → 0 < n
+    some n is = grind (arith, nat_tests, is)
+still_free false bytes i inside free is = absurd cc
+
+take_on : (i n : ℕ) (xs : List ℕ) → take (i + n) xs ≡ take i xs ++ take n (drop i xs)
+take_on zero n xs = let e : 0 + n ≡ n = omega arith in ap (λ (m : ℕ). take m xs) e
+take_on (suc i) n [] = take_all (suc i + n) [] (omega arith) ∙ sym (take_all n [] (omega arith))
+take_on (suc i) n (x ∷ xs) = let e : suc i + n ≡ suc (i + n) = omega arith in ap (λ (m : ℕ). take m (x ∷ xs)) e ∙ ap (λ (ys : List ℕ). x ∷ ys) (take_on i n xs)
+
+-- nor are so many more
+pub free_step : (bytes : List ℕ) (i n : ℕ) → NoZero (take i bytes) → NoZero (take n (drop i bytes)) → NoZero (take (i + n) bytes)
+free_step bytes i n free more = rw (take_on i n bytes) (free_both (take i bytes) (take n (drop i bytes)) free more)
+
+len_on : (xs ys : List ℕ) → NoZero xs → text_len (xs ++ ys) ≡ length xs + text_len ys
+len_on [] ys free = omega arith
+len_on (x ∷ xs) ys free =
+    let no : nat_eq x 0 ≡ false = no_zero x free.0 in
+    let more = len_on xs ys free.1 in
+    ap (λ t. cond t 0 (1 + text_len (xs ++ ys))) no ∙ omega arith
+
+-- the first 0 is behind bytes without one
+pub len_behind : (bytes : List ℕ) (i : ℕ) → i ≤ length bytes → NoZero (take i bytes) → text_len bytes ≡ i + text_len (drop i bytes)
+len_behind bytes i inside free =
+    let on = len_on (take i bytes) (drop i bytes) free in
+    let all = ap text_len (take-append-drop i bytes) in
+    let size = length-take-le i bytes inside in
+    omega arith
+
+pub len_fits : (bytes : List ℕ) → text_len bytes ≤ length bytes
+len_fits [] = omega arith
+len_fits (b ∷ bs) = by (nat_eq b 0) (len_fits bs)
+  where
+    by : (is : Bool) → text_len bs ≤ length bs → cond is 0 (1 + text_len bs) ≤ length (b ∷ bs)
+    by true fits = omega arith
+    by false fits = omega (arith, fits)
 
 -- a string, its end, and what follows it
 pub record TextRead (all bytes rest : List ℕ) : Type 0 where

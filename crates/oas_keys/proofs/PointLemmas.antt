@@ -19,7 +19,7 @@ has_points s ps within is from = record {
 }
 
 -- of the points that were there this many were skipped, and these are left
-pub record Left (all : SpelledPoints) (left : List ℕ) (count : ℕ) (ps : List Point) : Type 0 where
+pub record Left (left : List ℕ) (count : ℕ) (ps : List Point) : Type 0 where
   pub before : Point
   pub qs : List Point
   pub rest : List ℕ
@@ -29,6 +29,6 @@ pub record Left (all : SpelledPoints) (left : List ℕ) (count : ℕ) (ps : List
   pub sum : count + length qs ≡ length ps
 
 -- the same for whichever points were there
-pub record Counting (all : SpelledPoints) (left : List ℕ) (count : ℕ) : Type 0 where
-  pub each : (ps : List Point) → HasPoints all ps → Left all left count ps
-  pub few : count + length left ≤ length all.left
+pub record Counting (all left : List ℕ) (count : ℕ) : Type 0 where
+  pub each : (before : Point) (ps : List Point) (rest : List ℕ) → is_grid_point before ≡ true → AreWithin ps → all ≡ points_key before ps ++ rest → Left left count ps
+  pub few : count + length left ≤ length all

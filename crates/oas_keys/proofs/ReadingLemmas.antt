@@ -155,11 +155,3 @@ joins_fit n i h small =
     let few : 8 * i ≤ 56 = omega arith in
     let e : 2 ^ (8 * i) ≤ 2 ^ 56 = pow_mono {i = 8 * i} {j = 56} few in
     omega arith
-
--- what was read, by its parts
-pub read_as : (cs : List Class) (n first : ℕ) (rest after : List ℕ) → Reads cs n first rest after → (least more value : ℕ) (part new : List ℕ) →
-    least ≡ least_with cs 1 first → more ≡ more_with cs 1 first → part ≡ take more after → new ≡ drop more after → value ≡ joined_digits 0 part → (least + value ≡ n) × (new ≡ rest)
-read_as cs n first rest after h least more value part new e f p d v =
-    let whole : value ≡ joined_digits 0 (take (more_with cs 1 first) after) = v ∙ ap (joined_digits 0) (p ∙ ap (λ (k : ℕ). take k after) f) in
-    let sum = h.value in
-    (omega arith, d ∙ ap (λ (k : ℕ). drop k after) f ∙ h.rest_is)

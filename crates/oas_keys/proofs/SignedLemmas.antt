@@ -1,11 +1,11 @@
 -- What is read or skipped of a signed number.
-use Rattle.std.proofs.Common.{◌≡◌, ℕ, ◌+◌, ◌<◌, ◌≤◌, ◌^◌, ℤ, pos, ◌+ℤ◌, List, [], ◌∷◌, ◌++◌, length, drop, ap, ◌∙◌, arith}
+use Rattle.std.proofs.Common.{◌≡◌, ℕ, ◌+◌, ◌<◌, ◌≤◌, ◌^◌, ℤ, List, [], ◌∷◌, ◌++◌, length, drop, get_or, suc, refl, sym, ap, ◌∙◌, arith}
 use Rattle.std.proofs.lemmas.Int.{ints}
-use Rattle.oas_keys.specs.Numbers.{number_in, signed_classes, signed_key, signed_start, place, IsStep}
+use Rattle.oas_keys.specs.Numbers.{number_in, signed_classes, signed_key, place, IsStep}
 use Rattle.oas_keys.specs.Reading.{more_with}
 use Rattle.oas_keys.specs.Laws.NumberLaws.{signed_is, signed_fit, place_is}
-use Rattle.oas_keys.proofs.ReadingLemmas.{reads, never_empty}
-use Rattle.oas_keys.proofs.FirstLemmas.{Begin, Behind, behind}
+use Rattle.oas_keys.proofs.ReadingLemmas.{never_empty}
+use Rattle.oas_keys.proofs.FirstLemmas.{Begin, Front, front}
 
 -- its place is small
 pub placed : (x : ℤ) → IsStep x → place x < 2 ^ 64
@@ -16,26 +16,24 @@ pub by_place : (x : ℤ) (bytes rest : List ℕ) → bytes ≡ signed_key x ++ r
 by_place x bytes rest is = is ∙ ap (λ (t : List ℕ). t ++ rest) (signed_is x)
 
 -- so there are some
-pub signed_some : (x : ℤ) (bytes rest : List ℕ) → bytes ≡ signed_key x ++ rest → bytes ≡ [] → ⊥
-signed_some x bytes rest is = never_empty signed_classes (place x) bytes rest (by_place x bytes rest is)
+pub signed_some : (x : ℤ) (bytes rest : List ℕ) → bytes ≡ signed_key x ++ rest → 0 < length bytes
+signed_some x [] rest is = absurd (never_empty signed_classes (place x) [] rest (by_place x [] rest is) refl)
+signed_some x (b ∷ bs) rest is = omega arith
 
 -- what comes after its first byte
-pub signed_rest : (x : ℤ) (first least more : ℕ) (rest after : List ℕ) → IsStep x → first ∷ after ≡ signed_key x ++ rest
-    → Begin signed_classes 1 first least more → Behind least more (place x) rest after
-signed_rest x first least more rest after step is b = behind signed_classes (place x) first least more rest after signed_fit (placed x step) (by_place x _ rest is) b
-
--- the number, from the least with that first byte
-pub at_least : (x least : ℤ) (l j : ℕ) → IsStep x → l + j ≡ place x → pos l ≡ least +ℤ pos signed_start → least +ℤ pos j ≡ x
-at_least x least l j step sum from = omega (arith, ints, (place_is x step).0)
+pub signed_front : (x : ℤ) (first least more : ℕ) (rest bytes : List ℕ) → IsStep x → bytes ≡ signed_key x ++ rest
+    → first ≡ get_or bytes 0 0 → Begin signed_classes 1 first least more → Front least more (place x) rest bytes
+signed_front x first least more rest bytes step is was b = front signed_classes (place x) first least more rest bytes signed_fit (placed x step) (by_place x _ rest is) was b
 
 -- these are as many bytes as the first says, and then the rest
-pub record Passed (more : ℕ) (rest after : List ℕ) : Type 0 where
-  pub long : more ≤ length after
-  pub rest_is : drop more after ≡ rest
+pub record Passed (more : ℕ) (rest bytes : List ℕ) : Type 0 where
+  pub long : 1 + more ≤ length bytes
+  pub rest_is : drop (1 + more) bytes ≡ rest
 
-pub passed : (x : ℤ) (bytes rest after : List ℕ) (byte more : ℕ) → IsStep x → bytes ≡ signed_key x ++ rest → bytes ≡ byte ∷ after
-    → more ≡ more_with signed_classes 1 byte → Passed more rest after
-passed x bytes rest after byte more step is was e =
-    let h = reads signed_classes (place x) byte bytes rest after signed_fit (placed x step) (by_place x bytes rest is) was in
+pub passed : (x : ℤ) (bytes rest : List ℕ) (byte more : ℕ) → IsStep x → bytes ≡ signed_key x ++ rest → byte ≡ get_or bytes 0 0
+    → more ≡ more_with signed_classes 1 byte → Passed more rest bytes
+passed x bytes rest byte more step is was e =
+    let h = signed_front x byte _ more rest bytes step is was (record { least_is = refl; more_is = sym e }) in
     let long = h.long in
-    record { long = omega (arith, e); rest_is = (λ i. drop (e i) after) ∙ h.rest_is }
+    let one : 1 + more ≡ suc more = omega arith in
+    record { long = omega arith; rest_is = ap (λ (k : ℕ). drop k bytes) one ∙ h.rest_is }

@@ -1,6 +1,6 @@
 -- The key of an element: bytes that are ordered as the elements are (own rule). It is a byte for the kind, and then the
 -- fields in the order in which elements are compared, each as bytes that are no prefix of another's.
-use Rattle.std.specs.Prelude.{ℕ, ◌+◌, ◌*◌, ◌-ℤ◌, Bool, true, false, List, [], ◌∷◌, ◌++◌, length}
+use Rattle.std.specs.Prelude.{ℕ, ◌+◌, ◌*◌, ◌-ℤ◌, Bool, true, false, List, [], ◌∷◌, ◌++◌}
 use Rattle.oas_ring.specs.declared.point.Point.{Point}
 use Rattle.oas_ring.specs.Points.{origin}
 use Rattle.oas_elements.specs.declared.element.Turns.{Turns}
@@ -45,12 +45,3 @@ fields_key (Circle layer datatype radius x y) = unsigned_key layer ++ (unsigned_
 -- the kind, from 1 on, and the fields
 abbrev pub key_of : Element → List ℕ
 key_of e = (kind e + 1) ∷ fields_key e
-
--- a number takes at most nine bytes, so this is room for a key
-abbrev pub room_of : Element → ℕ
-room_of (Placement cell x y turns flip) = length cell + 21
-room_of (Text string textlayer texttype x y) = length string + 38
-room_of (Rectangle layer datatype width height x y) = 55
-room_of (Polygon layer datatype points) = length points * 18 + 20
-room_of (Path layer datatype half_width start end points) = length points * 18 + 47
-room_of (Circle layer datatype radius x y) = 46

@@ -1,4 +1,5 @@
 pub mod Keys
 pub mod Numbers
 pub mod Reading
+pub mod Steps
 pub mod Laws

@@ -1,5 +1,5 @@
 -- What bytes encode, read from the start.
-use Rattle.std.specs.Prelude.{◌≡◌, ℕ, ◌+◌, ◌-◌, ◌*◌, ◌^◌, ◌<◌, nat_lt, nat_eq, cond, Bool, true, false, ℤ, List, [], ◌∷◌, ◌++◌, Option, None, Some}
+use Rattle.std.specs.Prelude.{◌≡◌, ℕ, ◌+◌, ◌-◌, ◌*◌, ◌^◌, nat_lt, nat_eq, cond, true, ℤ, ◌-ℤ◌, List, [], ◌∷◌, ◌++◌, Option, None, Some}
 use Rattle.oas_ring.specs.declared.point.Point.{Point}
 use Rattle.oas_elements.specs.declared.element.Element.{Element}
 use Rattle.oas_elements.specs.declared.element.Element.TheVariants.{Placement, Text, Rectangle, Polygon, Path, Circle}
@@ -10,7 +10,6 @@ use Rattle.oas_keys.specs.declared.spelled.SpelledElement.{SpelledElement}
 use Rattle.oas_keys.specs.declared.spelled.SpelledElement.TheVariants as spelled
 use Rattle.oas_keys.specs.Keys.{points_key, fields_key}
 use Rattle.oas_keys.specs.declared.classes.Class.{Class}
-use Rattle.oas_keys.specs.Numbers.{number_in, signed_key, IsStep}
 use Rattle.oas_keys.specs.Laws.FieldLaws.{AreWithin}
 
 -- the number of more digits, to base 256
@@ -28,28 +27,20 @@ abbrev pub more_with : List Class → ℕ → ℕ → ℕ
 more_with [] base first = 8
 more_with (c ∷ cs) base first = cond (nat_lt first (base + c.firsts)) c.more (more_with cs (base + c.firsts) first)
 
--- a first byte, and after it what makes it a number of these classes
-abbrev pub Stand : List Class → ℕ → List ℕ → Type 0
-Stand cs first bytes = (n : ℕ) × (rest : List ℕ) × (n < 2 ^ 64) × (first ∷ bytes ≡ number_in cs 1 n ++ rest)
-
--- a first byte, and after it what makes it a signed number
-abbrev pub StandSigned : ℕ → List ℕ → Type 0
-StandSigned first bytes = (x : ℤ) × (rest : List ℕ) × IsStep x × (first ∷ bytes ≡ signed_key x ++ rest)
-
 -- the place of the first 0
 abbrev pub text_len : List ℕ → ℕ
 text_len [] = 0
 text_len (b ∷ bs) = cond (nat_eq b 0) 0 (1 + text_len bs)
 
+-- a list of points, and the step to the first of them, or none
+abbrev pub NextStep : Option (ℤ × ℤ) → Point → List Point → List ℕ → List ℕ → Type 0
+NextStep None before ps rest new = (ps ≡ []) × (new ≡ 0 ∷ rest)
+NextStep (Some step) before ps rest new = (p : Point) × (qs : List Point) × (ps ≡ p ∷ qs) × (step.0 ≡ p.x -ℤ before.x) × (step.1 ≡ p.y -ℤ before.y) × (new ≡ points_key p qs ++ rest)
+
 -- a list of points whose first is p, or none
 abbrev pub NextPoint : Option Point → List Point → List ℕ → List ℕ → Type 0
 NextPoint None ps rest new = (ps ≡ []) × (new ≡ 0 ∷ rest)
 NextPoint (Some p) ps rest new = (qs : List Point) × (ps ≡ p ∷ qs) × (new ≡ points_key p qs ++ rest)
-
--- the step to the first of these points was skipped, or there was none
-abbrev pub PassedPoint : Bool → List Point → List ℕ → List ℕ → Type 0
-PassedPoint false ps rest new = ps ≡ []
-PassedPoint true ps rest new = (p : Point) × (qs : List Point) × (ps ≡ p ∷ qs) × (is_grid_point p ≡ true) × AreWithin qs × (new ≡ points_key p qs ++ rest)
 
 -- these are the fields of a sound element
 pub record HasFields (e : Element) (bytes : List ℕ) : Type 0 where

@@ -1,9 +1,9 @@
 //! The keys of placements and texts, put from their fields.
 
-ghost use Rattle.std.specs.Prelude.{◌≡◌, ◌+◌, ◌≤◌, ◌++◌, true, OnOk, OnErr, vec_len, vec_capacity};
+ghost use Rattle.std.specs.Prelude.{◌≡◌, ◌+◌, ◌≤◌, ◌++◌, true, length, OnOk, OnErr, vec_len, vec_capacity};
 ghost use Rattle.oas_elements.specs.declared.element.Element.TheVariants.{Placement, Text};
 ghost use Rattle.oas_elements.specs.Grid.{fits_grid};
-ghost use Rattle.oas_keys.specs.Keys.{key_of, fields_key, room_of};
+ghost use Rattle.oas_keys.specs.Keys.{key_of, fields_key};
 
 use crate::fields::{put_text, turned};
 use crate::numbers::{put_signed_pair, put_unsigned_pair};
@@ -14,7 +14,7 @@ use std::alloc::AllocError;
 /// Puts the fields of a placement.
 fn put_placement(cell: &Name, x: i64, y: i64, turns: Turns, flip: bool, out: &mut Vec<u8>)
     requires inside { fits_grid (Placement cell.now x y turns flip) ≡ true }
-    requires room { vec_len out.old + room_of (Placement cell.now x y turns flip) ≤ vec_capacity out.old + 1 }
+    requires room { vec_len out.old + (length cell.now + 20) ≤ vec_capacity out.old }
     ensures { out.new.items ≡ out.old.items ++ fields_key (Placement cell.now x y turns flip) }
 {
     put_text(cell.as_bytes(), out);
@@ -25,7 +25,7 @@ fn put_placement(cell: &Name, x: i64, y: i64, turns: Turns, flip: bool, out: &mu
 /// Puts the fields of a text.
 fn put_string(string: &Label, textlayer: u64, texttype: u64, x: i64, y: i64, out: &mut Vec<u8>)
     requires inside { fits_grid (Text string.now textlayer texttype x y) ≡ true }
-    requires room { vec_len out.old + room_of (Text string.now textlayer texttype x y) ≤ vec_capacity out.old + 1 }
+    requires room { vec_len out.old + (length string.now + 37) ≤ vec_capacity out.old }
     ensures { out.new.items ≡ out.old.items ++ fields_key (Text string.now textlayer texttype x y) }
 {
     put_text(string.as_bytes(), out);

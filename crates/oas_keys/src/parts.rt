@@ -1,6 +1,6 @@
 //! The fields of a key that are no number alone, read from its front.
 
-ghost use Rattle.std.specs.Prelude.{◌≡◌, ◌<◌, ◌+◌, ◌*◌, ◌++◌, ◌^◌, true, Bool, ℕ, ℤ, List, length, IfSome};
+ghost use Rattle.std.specs.Prelude.{◌≡◌, ◌<◌, ◌+◌, ◌*◌, ◌++◌, ◌^◌, ◌≤◌, true, Bool, ℕ, ℤ, List, length, take, IfSome, IsTrue};
 ghost use Rattle.oas_ring.specs.declared.point.Point.{Point as OnePoint};
 ghost use Rattle.oas_elements.specs.declared.element.Turns.{Turns as SomeTurns};
 ghost use Rattle.oas_elements.specs.Element.{turn_count};
@@ -8,7 +8,7 @@ ghost use Rattle.oas_elements.specs.Grid.{is_grid_point};
 ghost use Rattle.oas_keys.specs.Numbers.{unsigned_key, signed_key, IsStep};
 ghost use Rattle.oas_keys.specs.Keys.{text_key, turned_key, points_key, flip_count};
 ghost use Rattle.oas_keys.specs.Laws.FieldLaws.{NoZero, AreWithin};
-ghost use Rattle.oas_keys.specs.Reading.{text_len, NextPoint, PassedPoint};
+ghost use Rattle.oas_keys.specs.Reading.{text_len, NextStep, NextPoint};
 
 use crate::cursor::Cursor;
 use oas_elements::Turns;
@@ -21,8 +21,35 @@ pub(crate) struct Turned {
     pub(crate) flip: bool,
 }
 
-/// How many bytes come before the first 0.
-fn text_len(bytes: &[u8]) -> usize
+/// So many bytes are looked at in one step.
+const STEP: usize = 16;
+
+/// Whether none of the bytes is 0. With no early return they are looked at in one step.
+#[inline(always)]
+fn has_no_zero(bytes: &[u8]) -> bool
+    ensures { IsTrue result → NoZero bytes.now }
+{
+    let mut none = true;
+    for byte in bytes {
+        none &= *byte != 0;
+    }
+    none
+}
+
+/// How many bytes come before the first step that has a 0, or that isn't whole.
+fn steps_len(bytes: &[u8]) -> usize
+    ensures fits { result ≤ length bytes.now }
+    ensures none { NoZero (take result bytes.now) }
+{
+    let mut len = 0;
+    while bytes.len() - len >= STEP && has_no_zero(&bytes[len..len + STEP]) {
+        len += STEP;
+    }
+    len
+}
+
+/// How many bytes come before the first 0, looked at one by one.
+fn first_zero(bytes: &[u8]) -> usize
     ensures len { result ≡ text_len bytes.now }
 {
     let mut len = 0;
@@ -33,6 +60,14 @@ fn text_len(bytes: &[u8]) -> usize
         len += 1;
     }
     len
+}
+
+/// How many bytes come before the first 0.
+fn text_len(bytes: &[u8]) -> usize
+    ensures len { result ≡ text_len bytes.now }
+{
+    let whole = steps_len(bytes);
+    whole + first_zero(&bytes[whole..])
 }
 
 /// The turns of a byte.
@@ -83,6 +118,7 @@ impl<'a> Cursor<'a> {
     }
 
     /// Takes two unsigned numbers.
+    #[inline(always)]
     pub(crate) fn unsigned_pair(&mut self) -> (u64, u64)
         requires { (a : ℕ) × (b : ℕ) × (rest : List ℕ) × (a < 2 ^ 64) × (b < 2 ^ 64) × (self.old ≡ unsigned_key a ++ (unsigned_key b ++ rest)) }
         ensures { (a b : ℕ) (rest : List ℕ) → a < 2 ^ 64 → b < 2 ^ 64 → self.old ≡ unsigned_key a ++ (unsigned_key b ++ rest) →
@@ -105,6 +141,20 @@ impl<'a> Cursor<'a> {
         (first, second)
     }
 
+    /// Takes the step to the next point. The end of the list is left.
+    #[inline(always)]
+    pub(crate) fn next_step(&mut self) -> Option<(i64, i64)>
+        requires { (before : OnePoint) × (ps : List OnePoint) × (rest : List ℕ) × (is_grid_point before ≡ true) × AreWithin ps × (self.old ≡ points_key before ps ++ rest) }
+        ensures next { (before : OnePoint) (ps : List OnePoint) (rest : List ℕ) → is_grid_point before ≡ true → AreWithin ps → self.old ≡ points_key before ps ++ rest →
+            NextStep result before ps rest self.new }
+        ensures shorter { IfSome result (λ step. length self.new < length self.old) }
+    {
+        if self.left()[0] == 0 {
+            return None;
+        }
+        Some(self.signed_pair())
+    }
+
     /// Takes the step to the next point, and returns that point. The end of the list is left.
     #[inline(always)]
     pub(crate) fn next_point(&mut self, before: Point) -> Option<Point>
@@ -113,27 +163,10 @@ impl<'a> Cursor<'a> {
         ensures next { (ps : List OnePoint) (rest : List ℕ) → AreWithin ps → self.old ≡ points_key before ps ++ rest → NextPoint result ps rest self.new }
         ensures shorter { IfSome result (λ p. length self.new < length self.old) }
     {
-        if self.left()[0] == 0 {
-            return None;
-        }
-        let dx = self.signed();
-        let dy = self.signed();
+        let step = self.next_step()?;
         Some(Point {
-            x: before.x + dx,
-            y: before.y + dy,
+            x: before.x + step.0,
+            y: before.y + step.1,
         })
-    }
-    /// Skips the step to the next point, and returns whether there was one. The end of the list is left.
-    pub(crate) fn pass_point(&mut self) -> bool
-        requires { (before : OnePoint) × (ps : List OnePoint) × (rest : List ℕ) × (is_grid_point before ≡ true) × AreWithin ps × (self.old ≡ points_key before ps ++ rest) }
-        ensures passed { (before : OnePoint) (ps : List OnePoint) (rest : List ℕ) → is_grid_point before ≡ true → AreWithin ps → self.old ≡ points_key before ps ++ rest → PassedPoint result ps rest self.new }
-        ensures shorter { result ≡ true → length self.new < length self.old }
-    {
-        if self.left()[0] == 0 {
-            return false;
-        }
-        self.pass_signed();
-        self.pass_signed();
-        true
     }
 }

@@ -1,48 +1,28 @@
 //! An element's key.
 
-ghost use Rattle.std.specs.Prelude.{◌≡◌, ◌+◌, ◌<◌, ◌≤◌, ◌⊎◌, ◌++◌, OnOk, OnErr, vec_len, vec_capacity};
+ghost use Rattle.std.specs.Prelude.{◌≡◌, ◌<◌, ◌++◌, OnOk, OnErr};
 ghost use Rattle.oas_elements.specs.Element.{kind};
 ghost use Rattle.oas_elements.specs.Sound.{IsSound};
-ghost use Rattle.oas_keys.specs.Keys.{key_of, fields_key, room_of};
+ghost use Rattle.oas_keys.specs.Keys.{key_of};
 
-use crate::fields::put_points;
+use crate::geometry::{put_circle_key, put_path_key, put_polygon_key, put_rectangle_key};
 use crate::named::{put_placement_key, put_text_key};
-use crate::numbers::{put_signed_pair, put_unsigned, put_unsigned_pair};
 use oas_elements::Element;
+use oas_ring::Reading;
 use std::alloc::AllocError;
 
-/// Reserves room for the key of an element that is no placement and no text.
-fn room_for(element: &Element) -> usize
-    requires { 1 < kind element.now }
-    ensures { result ≡ room_of element.now }
-{
-    match element {
-        Element::Polygon { points, .. } => points.as_slice().len() * 18 + 20,
-        Element::Path { points, .. } => points.as_slice().len() * 18 + 47,
-        Element::Circle { .. } => 46,
-        _ => 55,
-    }
-}
+/// The reading of a ring's points as they are listed.
+const AS_LISTED: Reading = Reading {
+    start: 0,
+    backwards: false,
+};
 
-/// The byte for the kind of such an element.
-fn kind_byte(element: &Element) -> u8
-    requires { 1 < kind element.now }
-    ensures { result ≡ kind element.now + 1 }
-{
-    match element {
-        Element::Polygon { .. } => 4,
-        Element::Path { .. } => 5,
-        Element::Circle { .. } => 6,
-        _ => 3,
-    }
-}
-
-/// Puts the fields of a rectangle or a circle.
-fn put_placed(element: &Element, out: &mut Vec<u8>)
+/// Puts the key of an element that is no placement and no text, as `put_key` does.
+fn put_geometry_key(element: &Element, out: &mut Vec<u8>) -> Result<(), AllocError>
     requires sound { IsSound element.now }
-    requires kind { (kind element.now ≡ 2) ⊎ (kind element.now ≡ 5) }
-    requires room { vec_len out.old + room_of element.now ≤ vec_capacity out.old + 1 }
-    ensures { out.new.items ≡ out.old.items ++ fields_key element.now }
+    requires kind { 1 < kind element.now }
+    ensures ok { OnOk result (out.new.items ≡ out.old.items ++ key_of element.now) }
+    ensures err { OnErr result (out.new.items ≡ out.old.items) }
 {
     match element {
         Element::Rectangle {
@@ -52,42 +32,12 @@ fn put_placed(element: &Element, out: &mut Vec<u8>)
             height,
             x,
             y,
-        } => {
-            put_unsigned_pair(*layer, *datatype, out);
-            put_unsigned_pair(*width, *height, out);
-            put_signed_pair(*x, *y, out);
-        }
-        Element::Circle {
-            layer,
-            datatype,
-            radius,
-            x,
-            y,
-        } => {
-            put_unsigned_pair(*layer, *datatype, out);
-            put_unsigned(*radius, out);
-            put_signed_pair(*x, *y, out);
-        }
-        _ => {}
-    }
-}
-
-/// Puts the fields of a polygon or a path.
-fn put_pointed(element: &Element, out: &mut Vec<u8>)
-    requires sound { IsSound element.now }
-    requires kind { (kind element.now ≡ 3) ⊎ (kind element.now ≡ 4) }
-    requires room { vec_len out.old + room_of element.now ≤ vec_capacity out.old + 1 }
-    ensures { out.new.items ≡ out.old.items ++ fields_key element.now }
-{
-    match element {
+        } => put_rectangle_key(*layer, *datatype, *width, *height, *x, *y, out),
         Element::Polygon {
             layer,
             datatype,
             points,
-        } => {
-            put_unsigned_pair(*layer, *datatype, out);
-            put_points(points.as_slice(), out);
-        }
+        } => put_polygon_key(*layer, *datatype, points.as_slice(), AS_LISTED, out),
         Element::Path {
             layer,
             datatype,
@@ -95,30 +45,24 @@ fn put_pointed(element: &Element, out: &mut Vec<u8>)
             start,
             end,
             points,
-        } => {
-            put_unsigned_pair(*layer, *datatype, out);
-            put_unsigned(*half_width, out);
-            put_signed_pair(*start, *end, out);
-            put_points(points.as_slice(), out);
-        }
-        _ => {}
+        } => put_path_key(
+            *layer,
+            *datatype,
+            *half_width,
+            *start,
+            *end,
+            points.as_slice(),
+            out,
+        ),
+        Element::Circle {
+            layer,
+            datatype,
+            radius,
+            x,
+            y,
+        } => put_circle_key(*layer, *datatype, *radius, *x, *y, out),
+        Element::Placement { .. } | Element::Text { .. } => Ok(()),
     }
-}
-
-/// Puts the key of an element that is no placement and no text.
-fn put_geometry_key(element: &Element, out: &mut Vec<u8>) -> Result<(), AllocError>
-    requires sound { IsSound element.now }
-    requires kind { 1 < kind element.now }
-    ensures ok { OnOk result (out.new.items ≡ out.old.items ++ key_of element.now) }
-    ensures err { OnErr result (out.new.items ≡ out.old.items) }
-{
-    out.reserve(room_for(element))?;
-    out.push_reserved(kind_byte(element));
-    match element {
-        Element::Polygon { .. } | Element::Path { .. } => put_pointed(element, out),
-        _ => put_placed(element, out),
-    }
-    Ok(())
 }
 
 /// Puts an element's key after what `out` has (own rule, specs/Keys.antt). If out of memory, `out` has what it had.
