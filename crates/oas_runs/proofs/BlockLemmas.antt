@@ -1,7 +1,7 @@
 -- Rows of blocks.
 use Rattle.std.specs.Prelude.{◌≡◌, List, [], ◌∷◌, ◌++◌, length, refl}
-use Rattle.std.proofs.Common.{sym, ◌∙◌, ap, arith, append_assoc, append-nil}
-use Rattle.oas_runs.specs.Blocks.{joined}
+use Rattle.std.proofs.Common.{sym, ◌∙◌, ap, arith, append_assoc, append-nil, length-append}
+use Rattle.oas_runs.specs.Blocks.{joined, NoneEmpty}
 
 module _ {X : Type 0} where
   pub joined-more : (xss : List (List X)) (xs : List X) → joined (xss ++ xs ∷ []) ≡ joined xss ++ xs
@@ -23,3 +23,14 @@ module _ {X : Type 0} where
   pub front-nil : (xs ys : List X) → xs ++ ys ≡ [] → xs ≡ []
   front-nil [] ys e = refl
   front-nil (x ∷ xs) ys e = let l = ap length e in absurd (omega (arith, l))
+
+  pub back-nil : (xs ys : List X) → xs ++ ys ≡ [] → ys ≡ []
+  back-nil [] ys e = e
+  back-nil (x ∷ xs) ys e = let l = ap length e in absurd (omega (arith, l))
+
+  pub none_empty-more : (xss : List (List X)) (xs : List X) → NoneEmpty xss → (xs ≡ [] → ⊥) → NoneEmpty (xss ++ xs ∷ [])
+  none_empty-more [] xs h k = (k, tt)
+  none_empty-more (ys ∷ yss) xs h k = (h.0, none_empty-more yss xs h.1 k)
+
+  pub push-some : (xs ys : List X) (x : X) → ys ≡ xs ++ x ∷ [] → ys ≡ [] → ⊥
+  push-some xs ys x e n = let l = ap length (sym e ∙ n) in omega (arith, l, length-append xs (x ∷ []))

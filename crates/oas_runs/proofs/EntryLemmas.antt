@@ -4,8 +4,11 @@ use Rattle.std.specs.Int.{w64, from_le_bytes}
 use Rattle.std.proofs.lemmas.Bool.{lt-ltb}
 use Rattle.std.proofs.Common.{sym, ◌∙◌, ap, arith, subst}
 use Rattle.std.proofs.lemmas.List.{drop-append-le}
-use Rattle.oas_runs.specs.Entries.{Entry, number_size, number_at, key_start, entry_end, entries, entry_bytes, Fits, IsBlock}
-use Rattle.oas_runs.specs.Laws.EntryLaws.{Stands, IsMore, block-append, block-append_all, stands}
+use Rattle.oas_runs.specs.Entries.{Entry, number_size, number_at, key_start, entry_end, entries, entry_bytes, block_bytes, Fits, FirstHas, IsBlock}
+use Rattle.std.proofs.Common.{length-append, length-drop}
+use Rattle.std.proofs.Math.Seq.{drop-append_seam}
+use Rattle.std.specs.List.{AllByRecursion}
+use Rattle.oas_runs.specs.Laws.EntryLaws.{Stands, IsMore, block-append, block-append_all, stands, IsBlock-written, entries-written}
 
 pub record Reads (bytes key : List ℕ) (times end : ℕ) : Type 0 where
   pub within : end ≤ length bytes
@@ -75,3 +78,46 @@ none-left [] e = refl
 none-left (b ∷ bytes) e = absurd (cons-nil _ _ e) where
   cons-nil : (p : Entry) (ps : List Entry) → p ∷ ps ≡ [] → ⊥
   cons-nil p ps e = let l = ap length e in omega (arith, l)
+
+-- ---- how many bytes the first entry has
+
+-- what reading an entry says of its end
+pub first_has : (bytes key : List ℕ) (times end : ℕ) (es : List Entry) → IsBlock bytes → end ≤ length bytes → entries bytes ≡ (key, times) ∷ entries (drop end bytes)
+    → IsBlock (drop end bytes) → entries bytes ≡ es → FirstHas end es
+first_has bytes key times end es b h e r v =
+    let rest = drop end bytes in
+    let whole : length bytes ≡ length (entry_bytes (key, times)) + length rest =
+    ap length (b.is ∙ ap block_bytes e) ∙ length-append (entry_bytes (key, times)) (block_bytes (entries rest))
+    ∙ ap (λ (bs : List ℕ). length (entry_bytes (key, times)) + length bs) (sym r.is) in
+    let is : end ≡ length (entry_bytes (key, times)) = omega (arith, whole, length-drop end bytes, h) in
+    subst (FirstHas end) (sym e ∙ v) is
+
+-- what is left when so many are taken
+pub record Passes (start end : ℕ) (bytes : List ℕ) (es : List Entry) : Type 0 where
+  pub within : start + end ≤ length bytes
+  pub block : IsBlock (drop (start + end) bytes)
+  pub some : (p : Entry) × (es ≡ p ∷ entries (drop (start + end) bytes))
+
+pub passes : (start end : ℕ) (bytes : List ℕ) (es : List Entry) → start ≤ length bytes → IsBlock (drop start bytes) → entries (drop start bytes) ≡ es → FirstHas end es
+    → Passes start end bytes es
+passes start end bytes [] h b e f = absurd f
+passes start end bytes (p ∷ ps) h b e f =
+    let left = drop start bytes in
+    let written : left ≡ entry_bytes p ++ block_bytes ps = b.is ∙ ap block_bytes e in
+    let fits : AllByRecursion Fits (p ∷ ps) = subst (AllByRecursion Fits) e b.fits in
+    let after : drop end left ≡ block_bytes ps = (λ i. drop (f i) (written i)) ∙ drop-append_seam (entry_bytes p) (block_bytes ps) in
+    let rest : drop (start + end) bytes ≡ block_bytes ps = sym (later start end bytes left refl) ∙ after in
+    record {
+      within = omega (arith, h, f, ap length written, length-append (entry_bytes p) (block_bytes ps), length-drop start bytes);
+      block = IsBlock-written _ ps fits.1 rest;
+      some = (p, ap (λ (qs : List Entry). p ∷ qs) (sym (entries-written _ ps fits.1 rest)));
+    }
+
+-- a first entry has its bytes in what it comes before
+pub first_has_front : (n : ℕ) (es fs whole : List Entry) → es ++ fs ≡ whole → (es ≡ [] → fs ≡ []) → FirstHas n whole → FirstHas n es
+first_has_front n [] fs whole e h f = subst (FirstHas n) (sym e ∙ h refl) f
+first_has_front n (p ∷ ps) fs whole e h f = subst (FirstHas n) (sym e) f
+
+pub first_has_whole : (n : ℕ) (es fs whole : List Entry) → es ++ fs ≡ whole → FirstHas n es → FirstHas n whole
+first_has_whole n [] fs whole e f = absurd f
+first_has_whole n (p ∷ ps) fs whole e f = subst (FirstHas n) e f

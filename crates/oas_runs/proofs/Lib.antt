@@ -1,4 +1,5 @@
 pub mod BlockLemmas
 pub mod EntryLemmas
+pub mod LastLemmas
 pub mod MergeLemmas
 pub mod OrderLemmas

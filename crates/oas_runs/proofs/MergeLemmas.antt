@@ -11,7 +11,7 @@ use Rattle.oas_runs.specs.Runs.{total, copies, Positive, IsRun}
 use Rattle.oas_runs.specs.Laws.RunLaws.{total-append, AllAbove, above_lower}
 use Rattle.std.specs.Cmp.{tied_itself}
 use Rattle.std.specs.Ordering.{is_eq, ordering_reverse}
-use Rattle.oas_runs.specs.Merging.{IsMerging, Precedes, Ties}
+use Rattle.oas_runs.specs.Merging.{IsMerging}
 
 module _ {K : Type 0} where
   abbrev Ascends : (K → K → Ordering) → List (K × ℕ) → Type 0
@@ -133,40 +133,48 @@ module _ {K : Type 0} where
 
   -- ---- the steps in the form of the loop
 
-  -- the head of from goes to the end of to
-  abbrev pub Moved : List (K × ℕ) → List (K × ℕ) → List (K × ℕ) → List (K × ℕ) → Type 0
-  Moved from from' to to' = (p : K × ℕ) × (from ≡ p ∷ from') × (to' ≡ to ++ p ∷ [])
+  abbrev head_of : K × ℕ → List (K × ℕ) → K × ℕ
+  head_of d [] = d
+  head_of d (x ∷ xs) = x
+
+  abbrev tail_of : List (K × ℕ) → List (K × ℕ)
+  tail_of [] = []
+  tail_of (x ∷ xs) = xs
+
+  -- what is taken is the head that was read
+  pub head_taken : (us us' es : List (K × ℕ)) (p : K × ℕ) → us ≡ p ∷ es → (q : K × ℕ) × (us ≡ q ∷ us') → us ≡ p ∷ us'
+  head_taken us us' es p e t = e ∙ ap (λ (xs : List (K × ℕ)). p ∷ tail_of xs) (sym e ∙ t.1)
+
+  -- heads that were read tie as those that are taken
+  pub heads_tie : (R : K → K → Ordering) (us vs es fs us' vs' : List (K × ℕ)) (p q x y : K × ℕ) → us ≡ p ∷ es → vs ≡ q ∷ fs → R p.0 q.0 ≡ Equal
+      → us ≡ x ∷ us' → vs ≡ y ∷ vs' → R x.0 y.0 ≡ Equal
+  heads_tie R us vs es fs us' vs' p q x y a b t e f = (λ i. R (ap (head_of x) (sym e ∙ a) i).0 (ap (head_of y) (sym f ∙ b) i).0) ∙ t
 
   -- both heads, which are one
   abbrev pub Joined : List (K × ℕ) → List (K × ℕ) → List (K × ℕ) → List (K × ℕ) → List (K × ℕ) → List (K × ℕ) → Type 0
   Joined us us' vs vs' to to' = (p : K × ℕ) × (q : K × ℕ) × (us ≡ p ∷ us') × (vs ≡ q ∷ vs') × (to' ≡ to ++ (p.0, p.1 + q.1) ∷ [])
 
-  merge-last : (R : K → K → Ordering) (os : List (K × ℕ)) (p : K × ℕ) (us whole : List (K × ℕ)) → IsMerging R os (p ∷ us) [] whole → IsMerging R (os ++ p ∷ []) us [] whole
-  merge-last R os p us whole m =
-      let left : IsRun R ((os ++ p ∷ []) ++ us) = subst (IsRun R) (sym (append_assoc os (p ∷ []) us)) m.left in
-      record {
-        left = left;
-        right = subst (IsRun R) (sym (append-nil (os ++ p ∷ []))) (run_front R (os ++ p ∷ []) us left);
-        same = λ g. ap (total g) (append_assoc os (p ∷ []) (us ++ [])) ∙ m.same g;
-      }
-
-  pub step-left : {R : K → K → Ordering} → IsTotalOrder R → (os us vs os' us' whole : List (K × ℕ)) → Precedes R us vs → Moved us us' os os' → IsMerging R os us vs whole → IsMerging R os' us' vs whole
-  step-left {R} o os us [] os' us' whole h m merging =
-      subst (λ (xs : List (K × ℕ)). IsMerging R xs us' [] whole) (sym m.2) (merge-last R os m.0 us' whole (subst (λ (xs : List (K × ℕ)). IsMerging R os xs [] whole) m.1 merging))
-  step-left {R} o os us (q ∷ qs) os' us' whole h m merging =
-      subst (λ (xs : List (K × ℕ)). IsMerging R xs us' (q ∷ qs) whole) (sym m.2)
-      (merge-first o os m.0 q us' qs whole (h.below m.0 q us' qs m.1 refl) (subst (λ (xs : List (K × ℕ)). IsMerging R os xs (q ∷ qs) whole) m.1 merging))
-
-  pub step-right : {R : K → K → Ordering} → IsTotalOrder R → (os us vs os' vs' whole : List (K × ℕ)) → Precedes R vs us → Moved vs vs' os os' →
-      IsMerging R os us vs whole → IsMerging R os' us vs' whole
-  step-right {R} o os us vs os' vs' whole h m merging = merge-swap R os' vs' us whole (step-left o os vs us os' vs' whole h m (merge-swap R os us vs whole merging))
-
-  pub step-both : {R : K → K → Ordering} → IsTotalOrder R → CmpEqualImpliesEq R → (os us vs os' us' vs' whole : List (K × ℕ)) → Ties R us vs →
-      Joined us us' vs vs' os os' → IsMerging R os us vs whole → IsMerging R os' us' vs' whole
-  step-both {R} o exact os us vs os' us' vs' whole t (p, q, e, f, z) merging =
-      let one = subst (λ (xs : List (K × ℕ)). IsMerging R os xs vs whole) e merging in
+  -- the lesser head goes to the end of os
+  pub step-left : {R : K → K → Ordering} → IsTotalOrder R → (os us vs os' us' es fs whole : List (K × ℕ)) (p q : K × ℕ) → us ≡ p ∷ es → vs ≡ q ∷ fs
+      → R p.0 q.0 ≡ Less → ((r : K × ℕ) × (us ≡ r ∷ us')) → os' ≡ os ++ p ∷ [] → IsMerging R os us vs whole → IsMerging R os' us' vs whole
+  step-left {R} o os us vs os' us' es fs whole p q e f l t d m =
+      let one = subst (λ (xs : List (K × ℕ)). IsMerging R os xs vs whole) (head_taken us us' es p e t) m in
       let two = subst (λ (xs : List (K × ℕ)). IsMerging R os (p ∷ us') xs whole) f one in
-      subst (λ (xs : List (K × ℕ)). IsMerging R xs us' vs' whole) (sym z) (merge-both o exact os p q us' vs' whole (t.equal p q us' vs' e f) two)
+      subst (λ (xs : List (K × ℕ)). IsMerging R xs us' vs whole) (sym d)
+      (subst (λ (xs : List (K × ℕ)). IsMerging R (os ++ p ∷ []) us' xs whole) (sym f) (merge-first o os p q us' fs whole l two))
+
+  pub step-right : {R : K → K → Ordering} → IsTotalOrder R → (os us vs os' vs' es fs whole : List (K × ℕ)) (p q : K × ℕ) → us ≡ p ∷ es → vs ≡ q ∷ fs
+      → R p.0 q.0 ≡ Greater → ((r : K × ℕ) × (vs ≡ r ∷ vs')) → os' ≡ os ++ q ∷ [] → IsMerging R os us vs whole → IsMerging R os' us vs' whole
+  step-right {R} o os us vs os' vs' es fs whole p q e f g t d m =
+      merge-swap R os' vs' us whole (step-left o os vs us os' vs' fs es whole q p f e (o.antisymm q.0 p.0 ∙ ap ordering_reverse g) t d (merge-swap R os us vs whole m))
+
+  pub step-both : {R : K → K → Ordering} → IsTotalOrder R → CmpEqualImpliesEq R → (os us vs os' us' vs' es fs whole : List (K × ℕ)) (p q : K × ℕ)
+      → us ≡ p ∷ es → vs ≡ q ∷ fs → R p.0 q.0 ≡ Equal → Joined us us' vs vs' os os' → IsMerging R os us vs whole → IsMerging R os' us' vs' whole
+  step-both {R} o exact os us vs os' us' vs' es fs whole p q a b t (x, y, e, f, z) m =
+      let is : R x.0 y.0 ≡ Equal = heads_tie R us vs es fs us' vs' p q x y a b t e f in
+      let one = subst (λ (xs : List (K × ℕ)). IsMerging R os xs vs whole) e m in
+      let two = subst (λ (xs : List (K × ℕ)). IsMerging R os (x ∷ us') xs whole) f one in
+      subst (λ (xs : List (K × ℕ)). IsMerging R xs us' vs' whole) (sym z) (merge-both o exact os x y us' vs' whole is two)
 
   -- what is left if out of memory
   pub step-none : (R : K → K → Ordering) (os us vs os' us' vs' whole : List (K × ℕ)) → os' ≡ os → us' ≡ us → vs' ≡ vs → IsMerging R os us vs whole → IsMerging R os' us' vs' whole
@@ -178,13 +186,13 @@ module _ {K : Type 0} where
   step-start R os us vs e h k = subst (λ (xs : List (K × ℕ)). IsMerging R xs us vs (us ++ vs)) (sym e) (record { left = h; right = k; same = λ g. refl })
 
   -- both counts are among those that there were
-  pub heads_fit : {R : K → K → Ordering} → IsTotalOrder R → (os us vs ls rs : List (K × ℕ)) (most : ℕ) → Ties R us vs →
+  pub heads_fit : {R : K → K → Ordering} → IsTotalOrder R → (os us vs ls rs : List (K × ℕ)) (most : ℕ) →
       ((k : K) → copies R k ls + copies R k rs < most) → IsMerging R os us vs (ls ++ rs) → (p : K × ℕ) (q : K × ℕ) (ps : List (K × ℕ)) (qs : List (K × ℕ)) → us
-      ≡ p ∷ ps → vs ≡ q ∷ qs → p.1 + q.1 < most
-  heads_fit {R} o os us vs ls rs most t room merging p q ps qs e f =
+      ≡ p ∷ ps → vs ≡ q ∷ qs → R p.0 q.0 ≡ Equal → p.1 + q.1 < most
+  heads_fit {R} o os us vs ls rs most room merging p q ps qs e f t =
       let g : K → ℕ = λ x. cond (is_eq (R p.0 x)) 1 0 in
       let one : g p.0 ≡ 1 = ap (λ r. cond (is_eq r) 1 0) (tied_itself o p.0) in
-      let two : g q.0 ≡ 1 = ap (λ r. cond (is_eq r) 1 0) (t.equal p q ps qs e f) in
+      let two : g q.0 ≡ 1 = ap (λ r. cond (is_eq r) 1 0) t in
       let left : total g us ≡ p.1 + total g ps = ap (total g) e ∙ rw one (omega arith) in
       let right : total g vs ≡ q.1 + total g qs = ap (total g) f ∙ rw two (omega arith) in
       omega (arith, room p.0, merging.same g, total-append g os (us ++ vs), total-append g us vs, total-append g ls rs, left, right)
@@ -204,18 +212,56 @@ module _ {K : Type 0} where
     same = λ g. omega (arith, m.same g, total-append g os (us ++ vs), total-append g us vs);
   }
 
-  -- ---- how heads compare
+  -- ---- all that is left of one
 
-  abbrev head_of : K × ℕ → List (K × ℕ) → K × ℕ
-  head_of d [] = d
-  head_of d (x ∷ xs) = x
+  -- some of what is in from is put at the end of to
+  abbrev pub Moves : List (K × ℕ) → List (K × ℕ) → List (K × ℕ) → List (K × ℕ) → Type 0
+  Moves from from' to to' = (ps : List (K × ℕ)) × (from ≡ ps ++ from') × (to' ≡ to ++ ps)
 
-  pub greater-precedes : {R : K → K → Ordering} → IsTotalOrder R → (us vs us' vs' : List (K × ℕ)) (one other : K × ℕ) (r : Ordering) → us ≡ one ∷ us' → vs
-      ≡ other ∷ vs' → r ≡ R one.0 other.0 → r ≡ Greater → Precedes R vs us
-  greater-precedes {R} o us vs us' vs' one other r a b c e = record {
-    some = λ n. let l = ap length (sym b ∙ n) in omega (arith, l);
-    below = λ p q ps qs f g.
-        let x : other ≡ p = ap (head_of p) (sym b ∙ f) in
-        let y : one ≡ q = ap (head_of q) (sym a ∙ g) in
-        (λ i. R (sym x i).0 (sym y i).0) ∙ o.antisymm other.0 one.0 ∙ ap ordering_reverse (sym c ∙ e);
-  }
+  pub none_moves : (from to : List (K × ℕ)) → Moves from from to to
+  none_moves from to = ([], refl, sym (append-nil to))
+
+  pub one_moves : (from mid from' to mids to' es : List (K × ℕ)) (p : K × ℕ) → mid ≡ p ∷ es → ((q : K × ℕ) × (mid ≡ q ∷ from')) → to' ≡ mids ++ p ∷ []
+      → Moves from mid to mids → Moves from from' to to'
+  one_moves from mid from' to mids to' es p e t d (ps, a, b) = (
+    ps ++ p ∷ [],
+    a ∙ ap (λ (xs : List (K × ℕ)). ps ++ xs) (head_taken mid from' es p e t) ∙ sym (append_assoc ps (p ∷ []) from'),
+    d ∙ ap (λ (xs : List (K × ℕ)). xs ++ p ∷ []) b ∙ append_assoc to ps (p ∷ []),
+  )
+
+  no_front : (ps us : List (K × ℕ)) → [] ≡ ps ++ us → (ps ≡ []) × (us ≡ [])
+  no_front [] [] e = (refl, refl)
+  no_front [] (x ∷ xs) e = let l = ap length e in absurd (omega (arith, l))
+  no_front (p ∷ ps) us e = let l = ap length e in absurd (omega (arith, l))
+
+  -- where the other has none left, or this one has
+  pub step-all : (R : K → K → Ordering) (os us vs os' us' whole : List (K × ℕ)) → ((us ≡ [] → ⊥) → vs ≡ []) → Moves us us' os os' → IsMerging R os us vs whole
+      → IsMerging R os' us' vs whole
+  step-all R os [] vs os' us' whole h (ps, a, b) m =
+      let none = no_front ps us' a in
+      step-none R os [] vs os' us' vs whole (b ∙ ap (λ (xs : List (K × ℕ)). os ++ xs) none.0 ∙ append-nil os) none.1 refl m
+  step-all R os (x ∷ xs) vs os' us' whole h (ps, a, b) m =
+      let none : vs ≡ [] = h (λ e. let l = ap length e in omega (arith, l)) in
+      let is : os' ++ us' ≡ os ++ x ∷ xs = ap (λ (ys : List (K × ℕ)). ys ++ us') b ∙ append_assoc os ps us' ∙ ap (λ (ys : List (K × ℕ)). os ++ ys) (sym a) in
+      let left : IsRun R (os' ++ us') = subst (IsRun R) (sym is) m.left in
+      record {
+        left = left;
+        right = subst (λ (ys : List (K × ℕ)). IsRun R (os' ++ ys)) (sym none) (subst (IsRun R) (sym (append-nil os')) (run_front R os' us' left));
+        same = λ g.
+            omega (
+              arith,
+              m.same g,
+              ap (total g) is,
+              total-append g os' us',
+              total-append g os (x ∷ xs),
+              total-append g os (x ∷ xs ++ vs),
+              total-append g (x ∷ xs) vs,
+              total-append g os' (us' ++ vs),
+              total-append g us' vs,
+            );
+      }
+
+  -- where this one has none, all that is left of the other
+  pub step-last : (R : K → K → Ordering) (os us vs os' vs' whole : List (K × ℕ)) → us ≡ [] → Moves vs vs' os os' → IsMerging R os us vs whole → IsMerging R os' us vs' whole
+  step-last R os us vs os' vs' whole none t m =
+      merge-swap R os' vs' us whole (step-all R os vs us os' vs' whole (λ _. none) t (merge-swap R os us vs whole m))

@@ -61,3 +61,18 @@ pub record IsBlock (bytes : List ℕ) : Type 0 where
 -- a key and its count, as an iterator gives them
 abbrev pub key_and_count : Bor (List ℕ) × ℕ → Entry
 key_and_count p = (p.0.now, p.1)
+
+-- there is a first entry, and it has this many bytes
+abbrev pub FirstHas : ℕ → List Entry → Type 0
+FirstHas n [] = ⊥
+FirstHas n (p ∷ ps) = n ≡ length (entry_bytes p)
+
+-- all but the last
+abbrev pub but_last : List Entry → List Entry
+but_last [] = []
+but_last (p ∷ []) = []
+but_last (p ∷ q ∷ ps) = p ∷ but_last (q ∷ ps)
+
+-- the last entry begins after this many bytes
+abbrev pub LastBegins : ℕ → List Entry → Type 0
+LastBegins at es = at ≡ length (block_bytes (but_last es))

@@ -1,9 +1,10 @@
 //! A block of bytes that holds entries, the first of which may have been taken.
 
-ghost use Rattle.std.specs.Prelude.{◌≡◌, ◌+◌, ◌<◌, ◌≤◌, [], ◌∷◌, ◌++◌, List, ℕ, OnOk, OnErr, IfOk, IfSome, IfNone, IsTrue, IsFalse, length};
-ghost use Rattle.oas_runs.specs.Entries.{IsBlock, entries};
+ghost use Rattle.std.specs.Prelude.{◌≡◌, ◌+◌, ◌<◌, ◌≤◌, ◌^◌, [], ◌∷◌, ◌++◌, List, ℕ, OnOk, OnErr, IfOk, IfSome, IfNone, IsTrue, IsFalse, length};
+ghost use Rattle.oas_runs.specs.Entries.{FirstHas, LastBegins, IsBlock, block_bytes, entries};
 
 use crate::entry::{Entry, after, is_over, push_entry, read_entry};
+use crate::recount::count_last;
 use crate::room::reserve_more;
 use std::alloc::{AllocError, Global};
 use std::marker::Model;
@@ -12,7 +13,7 @@ use std::marker::Model;
 pub const BLOCK: usize = 65536;
 
 /// How many bytes of an entry are not its key, at most.
-pub const MARGIN: usize = 18;
+const MARGIN: usize = 18;
 
 /// Entries in a row of bytes; contracts see the list of those that are left.
 #[derive(Drop)]
@@ -65,6 +66,14 @@ impl Block {
         self.bytes.len()
     }
 
+    /// How many bytes the entries that are left have.
+    #[inline(always)]
+    pub(crate) fn len(&self) -> usize
+        ensures { result ≡ length (block_bytes self.now) }
+    {
+        self.left().len()
+    }
+
     /// Drops all entries, and keeps the memory.
     pub fn clear(&mut self)
         ensures { self.new ≡ [] }
@@ -74,7 +83,7 @@ impl Block {
     }
 
     /// Whether no entry is left.
-    pub(crate) fn is_empty(&self) -> bool
+    pub fn is_empty(&self) -> bool
         ensures over { IsTrue result → self.now ≡ [] }
         ensures left { IsFalse result → self.now ≡ [] → ⊥ }
     {
@@ -110,12 +119,14 @@ impl Block {
         Ok(())
     }
 
-    /// Gives back idle memory, except room for this many more bytes.
-    pub fn fit(&mut self, more: usize)
+    /// Gives back idle memory: the bytes move into memory of just their size, which leaves no small hole behind them. If out of
+    /// memory nothing changes.
+    pub fn fit(&mut self, alloc: Global)
         ensures { self.new ≡ self.old }
     {
-        let wanted = self.bytes.len().saturating_add(more);
-        self.bytes.shrink_to(wanted);
+        if let Ok(bytes) = Vec::from_slice(alloc, &self.bytes) {
+            self.bytes = bytes;
+        }
     }
 
     /// The same entries, in memory of just their size. If out of memory it is the block itself.
@@ -140,17 +151,46 @@ impl Block {
     pub fn first(&self) -> Option<Entry<'_>>
         ensures none { IfNone result (self.now ≡ []) }
         ensures some { IfSome result (λ e. (es : List (List ℕ × ℕ)) × (self.now ≡ (e.key.now, e.times) ∷ es)) }
+        ensures end { IfSome result (λ e. FirstHas e.end self.now) }
     {
         read_entry(after(&self.bytes, self.start))
     }
 
-    /// Takes the first entry.
-    pub(crate) fn pop_first(&mut self)
-        requires { self.old ≡ [] → ⊥ }
+    /// Takes the first entry, which has this many bytes.
+    #[inline(always)]
+    pub(crate) fn pass(&mut self, end: usize)
+        requires { FirstHas end self.old }
         ensures { (p : List ℕ × ℕ) × (self.old ≡ p ∷ self.new) }
     {
-        if let Some(entry) = read_entry(after(&self.bytes, self.start)) {
-            self.start += entry.end;
-        }
+        self.start += end;
+    }
+
+    /// The last entry, which begins after this many of the bytes that are left.
+    #[inline(always)]
+    pub(crate) fn last(&self, at: usize) -> Option<Entry<'_>>
+        requires { LastBegins at self.now }
+        ensures none { IfNone result (self.now ≡ []) }
+        ensures some { IfSome result (λ e. (es : List (List ℕ × ℕ)) × (self.now ≡ es ++ (e.key.now, e.times) ∷ [])) }
+    {
+        read_entry(after(self.left(), at))
+    }
+
+    /// Adds to the count of the last entry, which begins after this many of the bytes that are left; or changes nothing.
+    pub(crate) fn count_last(
+        &mut self,
+        alloc: Global,
+        at: usize,
+        more: u64,
+    ) -> Result<(), AllocError>
+        requires begins { LastBegins at self.old }
+        requires some { self.old ≡ [] → ⊥ }
+        requires fits { (ps : List (List ℕ × ℕ)) (p : List ℕ × ℕ) → self.old ≡ ps ++ p ∷ [] → p.1 + more < 2 ^ 64 }
+        ensures ok { OnOk result ((ps : List (List ℕ × ℕ)) (p : List ℕ × ℕ) → self.old ≡ ps ++ p ∷ [] → self.new ≡ ps ++ (p.0, p.1 + more) ∷ []) }
+        ensures begins { LastBegins at self.new }
+        ensures some { self.new ≡ [] → ⊥ }
+        ensures err { OnErr result (self.new ≡ self.old) }
+    {
+        count_last(&mut self.bytes, alloc, self.start + at, more)?;
+        Ok(())
     }
 }

@@ -7,7 +7,7 @@ use crate::room::reserve_more;
 use std::alloc::AllocError;
 
 /// The byte that announces a number of eight bytes. Numbers below it are one byte.
-const LONG: u8 = 255;
+pub(crate) const LONG: u8 = 255;
 
 /// How many bytes of an entry are not its key, where both numbers are one byte.
 pub(crate) const SHORT_HEAD: usize = 2;

@@ -1,11 +1,11 @@
 //! A run of entries that is being written.
 
-ghost use Rattle.std.specs.Prelude.{◌≡◌, [], ◌∷◌, ◌++◌, List, OnOk, OnErr, IfOk};
+ghost use Rattle.std.specs.Prelude.{◌≡◌, ◌+◌, ◌<◌, ◌^◌, [], ◌∷◌, ◌++◌, List, ℕ, OnOk, OnErr, IfOk, IfSome, IfNone, IsTrue, IsFalse};
 ghost use Rattle.oas_runs.specs.Blocks.{joined};
 
 use crate::block::Block;
 use crate::blocks::Blocks;
-use crate::entry::SHORT_HEAD;
+use crate::entry::{Entry, SHORT_HEAD};
 use crate::run::Run;
 use std::alloc::{AllocError, Global};
 use std::marker::Model;
@@ -17,18 +17,20 @@ pub struct Growing {
     full: Blocks,
     last: Block,
     size: usize,
+    /// Where the last entry begins in the last block.
+    at: usize,
 }
 
 impl Model for Growing {
     ghost use Rattle.std.specs.Prelude.{◌≡◌, List, [], ◌++◌};
-    ghost use Rattle.oas_runs.specs.Entries.{Entry};
+    ghost use Rattle.oas_runs.specs.Entries.{Entry, LastBegins};
     ghost use Rattle.oas_runs.specs.Blocks.{joined, NoneEmpty};
 
     ghost Value = { List Entry };
 
     ghost view = { λ a. joined a.full ++ a.last };
 
-    ghost invariant = { λ a. NoneEmpty a.full × (a.last ≡ [] → a.full ≡ []) };
+    ghost invariant = { λ a. NoneEmpty a.full × (a.last ≡ [] → a.full ≡ []) × LastBegins a.at a.last };
 }
 
 impl Growing {
@@ -40,6 +42,7 @@ impl Growing {
             full: Blocks::new(),
             last: Block::new(alloc),
             size: 0,
+            at: 0,
         }
     }
 
@@ -52,6 +55,7 @@ impl Growing {
             full: Blocks::new(),
             last,
             size: 0,
+            at: 0,
         })
     }
 
@@ -62,19 +66,51 @@ impl Growing {
         ensures err { OnErr result (self.new ≡ self.old) }
     {
         if self.last.has_room(key.len()) {
+            let at = self.last.len();
             self.last.append(key, times)?;
+            self.at = at;
         } else {
             begin_block(alloc, &mut self.full, &mut self.last, key, times)?;
+            self.at = 0;
         }
         self.size = size_with(self.size, key);
         Ok(())
     }
 
-    /// Gives back idle memory of the last bytes, except room for this many more.
-    pub fn fit(&mut self, more: usize)
+    /// Whether there are no entries.
+    #[inline(always)]
+    pub fn is_empty(&self) -> bool
+        ensures none { IsTrue result → self.now ≡ [] }
+        ensures some { IsFalse result → self.now ≡ [] → ⊥ }
+    {
+        self.last.is_empty()
+    }
+
+    /// The last entry.
+    #[inline(always)]
+    pub fn last(&self) -> Option<Entry<'_>>
+        ensures none { IfNone result (self.now ≡ []) }
+        ensures some { IfSome result (λ e. (es : List (List ℕ × ℕ)) × (self.now ≡ es ++ (e.key.now, e.times) ∷ [])) }
+    {
+        self.last.last(self.at)
+    }
+
+    /// Adds to the count of the last entry, or changes nothing.
+    pub fn count_last(&mut self, alloc: Global, more: u64) -> Result<(), AllocError>
+        requires some { self.old ≡ [] → ⊥ }
+        requires fits { (ps : List (List ℕ × ℕ)) (p : List ℕ × ℕ) → self.old ≡ ps ++ p ∷ [] → p.1 + more < 2 ^ 64 }
+        ensures ok { OnOk result ((ps : List (List ℕ × ℕ)) (p : List ℕ × ℕ) → self.old ≡ ps ++ p ∷ [] → self.new ≡ ps ++ (p.0, p.1 + more) ∷ []) }
+        ensures err { OnErr result (self.new ≡ self.old) }
+    {
+        self.last.count_last(alloc, self.at, more)?;
+        Ok(())
+    }
+
+    /// Gives back idle memory of the last block.
+    pub fn fit(&mut self, alloc: Global)
         ensures { self.new ≡ self.old }
     {
-        self.last.fit(more);
+        self.last.fit(alloc);
     }
 
     /// How many bytes were put, about.
@@ -94,7 +130,7 @@ impl Growing {
 
 /// About how many bytes there are with one more entry: its numbers may take more.
 #[inline(always)]
-pub fn size_with(size: usize, key: &[u8]) -> usize {
+fn size_with(size: usize, key: &[u8]) -> usize {
     size.saturating_add(key.len()).saturating_add(SHORT_HEAD)
 }
 

@@ -1,11 +1,11 @@
 //! Two runs merged into one.
 
-ghost use Rattle.std.specs.Prelude.{◌≡◌, ◌+◌, ◌<◌, ◌^◌, [], ◌∷◌, ◌++◌, List, ℕ, OnOk, OnErr, IfNone, IfSome, IsTrue};
+ghost use Rattle.std.specs.Prelude.{◌≡◌, ◌+◌, ◌<◌, ◌^◌, [], ◌∷◌, ◌++◌, List, ℕ, length, OnOk, OnErr, IfOk, IsTrue, IsFalse};
 ghost use Rattle.std.specs.Cmp.Lexicographic.{slice_cmp};
 ghost use Rattle.std.specs.Ordering.{nat_cmp};
-ghost use Rattle.std.specs.declared.cmp.Ordering.TheVariants.{Less, Equal, Greater};
+ghost use Rattle.std.specs.declared.cmp.Ordering.TheVariants.{Equal};
 ghost use Rattle.oas_runs.specs.Runs.{copies, IsRun};
-ghost use Rattle.oas_runs.specs.Merging.{IsMerging, Precedes, Ties};
+ghost use Rattle.oas_runs.specs.Merging.{IsMerging};
 
 use crate::growing::Growing;
 use crate::ordering::order_of;
@@ -23,14 +23,9 @@ fn merge(alloc: Global, left: &mut Run, right: &mut Run, to: &mut Growing) -> Re
     ensures left { OnOk result (left.new ≡ []) }
     ensures right { OnOk result (right.new ≡ []) }
 {
-    while let Some(order) = order_of_heads(left, right) {
-        match order {
-            Ordering::Less => move_head(alloc, left, to)?,
-            Ordering::Greater => move_head(alloc, right, to)?,
-            Ordering::Equal => join_heads(alloc, left, right, to)?,
-        }
-    }
-    Ok(())
+    while merge_heads(alloc, left, right, to)? {}
+    move_all(alloc, left, to)?;
+    move_all(alloc, right, to)
 }
 
 /// Moves two runs to the end of an empty one, adds up their counts, and returns whether it came to the end of both. Where it
@@ -50,32 +45,49 @@ pub fn merge_all(alloc: Global, left: &mut Run, right: &mut Run, to: &mut Growin
     }
 }
 
-/// Which of two runs has the lesser first key. A run at its end has none.
-fn order_of_heads(left: &Run, right: &Run) -> Option<Ordering>
-    ensures none { IfNone result ((left.now ≡ []) × (right.now ≡ [])) }
-    ensures less { IfSome result (λ order. order ≡ Less → Precedes (slice_cmp nat_cmp) left.now right.now) }
-    ensures greater { IfSome result (λ order. order ≡ Greater → Precedes (slice_cmp nat_cmp) right.now left.now) }
-    ensures equal { IfSome result (λ order. order ≡ Equal → Ties (slice_cmp nat_cmp) left.now right.now) }
+/// Moves the lesser of the first entries of two runs to the end of another run, or both as one entry where they have the same
+/// key. Returns whether both runs had a first entry; if out of memory, or where one had none, nothing is moved.
+#[inline(always)]
+fn merge_heads(
+    alloc: Global,
+    left: &mut Run,
+    right: &mut Run,
+    to: &mut Growing,
+) -> Result<bool, AllocError>
+    requires fits { (p : List ℕ × ℕ) (q : List ℕ × ℕ) (ps : List (List ℕ × ℕ)) (qs : List (List ℕ × ℕ)) → left.old ≡ p ∷ ps → right.old ≡ q ∷ qs → slice_cmp nat_cmp p.0 q.0 ≡ Equal → p.1 + q.1 < 2 ^ 64 }
+    ensures merging { (whole : List (List ℕ × ℕ)) → IsMerging (slice_cmp nat_cmp) to.old left.old right.old whole → IsMerging (slice_cmp nat_cmp) to.new left.new right.new whole }
+    ensures more { IfOk result (λ more. IsTrue more → length left.new + length right.new < length left.old + length right.old) }
+    ensures over { IfOk result (λ more. IsFalse more → (left.new ≡ [] → ⊥) → right.new ≡ []) }
 {
-    match (left.first(), right.first()) {
-        (Some(one), Some(other)) => Some(order_of(one.key, other.key)),
-        (Some(_), None) => Some(Ordering::Less),
-        (None, Some(_)) => Some(Ordering::Greater),
-        (None, None) => None,
+    let (Some(one), Some(other)) = (left.first(), right.first()) else {
+        return Ok(false);
+    };
+    match order_of(one.key, other.key) {
+        Ordering::Less => {
+            to.append(alloc, one.key, one.times)?;
+            let end = one.end;
+            left.pass(end);
+        }
+        Ordering::Greater => {
+            to.append(alloc, other.key, other.times)?;
+            let end = other.end;
+            right.pass(end);
+        }
+        Ordering::Equal => join_heads(alloc, left, right, to)?,
     }
+    Ok(true)
 }
 
-/// Moves the first entry of a run to the end of another, or nothing.
-#[inline(always)]
-fn move_head(alloc: Global, from: &mut Run, to: &mut Growing) -> Result<(), AllocError>
-    requires { from.old ≡ [] → ⊥ }
-    ensures moved { OnOk result ((p : List ℕ × ℕ) × (from.old ≡ p ∷ from.new) × (to.new ≡ to.old ++ p ∷ [])) }
-    ensures err { OnErr result ((from.new ≡ from.old) × (to.new ≡ to.old)) }
+/// Moves the entries of a run to the end of another. If out of memory it moves only a part.
+fn move_all(alloc: Global, from: &mut Run, to: &mut Growing) -> Result<(), AllocError>
+    ensures moved { (ps : List (List ℕ × ℕ)) × (from.old ≡ ps ++ from.new) × (to.new ≡ to.old ++ ps) }
+    ensures all { OnOk result (from.new ≡ []) }
 {
-    if let Some(entry) = from.first() {
+    while let Some(entry) = from.first() {
         to.append(alloc, entry.key, entry.times)?;
+        let end = entry.end;
+        from.pass(end);
     }
-    from.pop_first();
     Ok(())
 }
 

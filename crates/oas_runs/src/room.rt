@@ -5,7 +5,7 @@ ghost use Rattle.std.specs.Prelude.{◌≡◌, ◌+◌, ◌≤◌, OnOk, vec_len
 use std::alloc::AllocError;
 
 /// Memory is reserved for at least this many bytes at a time.
-const LEAST: usize = 64;
+const LEAST: usize = 1024;
 
 /// How much of the present size is reserved at once: a quarter. So bytes are moved only a few times each while they grow, and
 /// at most a fifth of many bytes is idle.

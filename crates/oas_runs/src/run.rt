@@ -1,6 +1,7 @@
 //! A run of entries in blocks, from which the first can be taken.
 
 ghost use Rattle.std.specs.Prelude.{◌≡◌, ◌+◌, ◌<◌, [], ◌∷◌, ◌++◌, List, ℕ, IfSome, IfNone, IfOk, IfErr, IsTrue, IsFalse};
+ghost use Rattle.oas_runs.specs.Entries.{FirstHas};
 ghost use Rattle.oas_runs.specs.Blocks.{joined, NoneEmpty};
 
 use crate::block::Block;
@@ -74,9 +75,11 @@ impl Run {
     }
 
     /// The first entry that is left.
+    #[inline(always)]
     pub fn first(&self) -> Option<Entry<'_>>
         ensures none { IfNone result (self.now ≡ []) }
         ensures some { IfSome result (λ e. (es : List (List ℕ × ℕ)) × (self.now ≡ (e.key.now, e.times) ∷ es)) }
+        ensures end { IfSome result (λ e. FirstHas e.end self.now) }
     {
         self.first.first()
     }
@@ -88,17 +91,40 @@ impl Run {
         Entries::of(self.first.left(), &self.rest)
     }
 
+    /// Takes the first entry, which has this many bytes.
+    #[inline(always)]
+    pub(crate) fn pass(&mut self, end: usize)
+        requires { FirstHas end self.old }
+        ensures { (p : List ℕ × ℕ) × (self.old ≡ p ∷ self.new) }
+    {
+        self.first.pass(end);
+        if self.first.is_empty() {
+            next_block(&mut self.first, &mut self.rest);
+        }
+    }
+
     /// Takes the first entry.
     pub fn pop_first(&mut self)
         requires { self.old ≡ [] → ⊥ }
         ensures { (p : List ℕ × ℕ) × (self.old ≡ p ∷ self.new) }
     {
-        self.first.pop_first();
-        if !self.first.is_empty() {
-            return;
+        if let Some(entry) = self.first() {
+            let end = entry.end;
+            self.pass(end);
         }
-        if let Some(next) = self.rest.pop_front() {
-            self.first = next;
-        }
+    }
+}
+
+/// Puts the next block in place of the first, which is used up, and frees that.
+#[inline(never)]
+fn next_block(first: &mut Block, rest: &mut Blocks)
+    requires over { first.old ≡ [] }
+    requires rest { NoneEmpty rest.old }
+    ensures same { first.new ++ joined rest.new ≡ joined rest.old }
+    ensures rest { NoneEmpty rest.new }
+    ensures first { first.new ≡ [] → rest.new ≡ [] }
+{
+    if let Some(next) = rest.pop_front() {
+        *first = next;
     }
 }

@@ -92,7 +92,7 @@ entry-read p rest fits =
     (number_size-read p.1 (p.0 ++ rest))
     (number-read p.1 (p.0 ++ rest) fits.1)
 
-number_bytes-some : (n : ℕ) → 0 < length (number_bytes n)
+pub number_bytes-some : (n : ℕ) → 0 < length (number_bytes n)
 number_bytes-some n = elim (nat_lt n 255) as (λ b. 0 < length (cond b (n ∷ []) (255 ∷ to_le_bytes w64 n))) [
   | true ↦ omega arith
   | false ↦ omega arith

@@ -1,21 +1,31 @@
-use Rattle.std.specs.Prelude.{◌^◌}
+use Rattle.std.specs.Prelude.{◌++◌, ◌^◌}
+use Rattle.std.specs.Cmp.Lexicographic.{slice_cmp}
+use Rattle.std.specs.Ordering.{nat_cmp}
 use Rattle.std.proofs.lemmas.Cmp.{nat_list_cmp_total}
-use Rattle.std.proofs.lemmas.Map.Lookups.{exact_bytes}
-use Rattle.oas_runs.proofs.MergeLemmas.{step-left, step-right, step-both, heads_fit}
+use Rattle.oas_runs.proofs.MergeLemmas.{heads_fit, step-all, step-last}
 use Rattle.oas_runs.proofs.merge.merge.Goals as goal
 
-pub loop-order-preserved-in-Continue-1 : goal.loop-order-preserved-in-Continue-1
-loop-order-preserved-in-Continue-1 c = step-left nat_list_cmp_total c.loop-order.to c.loop-order.left c.loop-order.right c.move_head.new.to c.move_head.new.from
-    _ (c.in-Some.ensures.less c.in-Less.is) c.in_ok-move_head-in-Less.ensures.moved c.loop-order.invariant
+pub merge_heads-requires : goal.merge_heads-requires
+merge_heads-requires c = record {
+  fits = heads_fit nat_list_cmp_total c.loop.to c.loop.left c.loop.right c.args.left.now c.args.right.now (2 ^ 64) c.requires.room c.loop.invariant;
+}
 
-pub loop-order-preserved-in-Continue-branch-2 : goal.loop-order-preserved-in-Continue-branch-2
-loop-order-preserved-in-Continue-branch-2 c = step-right nat_list_cmp_total c.loop-order.to c.loop-order.left c.loop-order.right c.move_head-in-Greater.new.to
-    c.move_head-in-Greater.new.from _ (c.in-Some.ensures.greater c.in-Greater.is) c.in_ok-move_head-in-Greater.ensures.moved c.loop-order.invariant
+pub returns-in_err-merge_heads-clause-merging : goal.returns-in_err-merge_heads-clause-merging
+returns-in_err-merge_heads-clause-merging c = c.merge_heads.ensures.merging (c.args.left.now ++ c.args.right.now) c.loop.invariant
 
-pub join_heads-requires-clause-fits : goal.join_heads-requires-clause-fits
-join_heads-requires-clause-fits c = heads_fit nat_list_cmp_total c.loop-order.to c.loop-order.left c.loop-order.right c.args.left.now c.args.right.now (2 ^ 64)
-    (c.in-Some.ensures.equal c.in-Equal.is) c.requires.room c.loop-order.invariant
+pub loop-preserved : goal.loop-preserved
+loop-preserved c = c.merge_heads.ensures.merging (c.args.left.now ++ c.args.right.now) c.loop.invariant
 
-pub loop-order-preserved : goal.loop-order-preserved
-loop-order-preserved c = step-both nat_list_cmp_total exact_bytes c.loop-order.to c.loop-order.left c.loop-order.right c.join_heads.new.to c.join_heads.new.left
-    c.join_heads.new.right _ (c.in-Some.ensures.equal c.in-Equal.is) c.in_ok-join_heads-in-Equal.ensures.joined c.loop-order.invariant
+pub returns-in_err-move_all-clause-merging : goal.returns-in_err-move_all-clause-merging
+returns-in_err-move_all-clause-merging c =
+    step-all (slice_cmp nat_cmp) c.merge_heads.new.to c.merge_heads.new.left c.merge_heads.new.right c.move_all.new.to c.move_all.new.from
+    (c.args.left.now ++ c.args.right.now) (c.in_ok-merge_heads.ensures.over c.if-branch.false) c.move_all.ensures.moved
+    (c.merge_heads.ensures.merging (c.args.left.now ++ c.args.right.now) c.loop.invariant)
+
+pub returns-clause-merging : goal.returns-clause-merging
+returns-clause-merging c =
+    let whole = c.args.left.now ++ c.args.right.now in
+    step-last (slice_cmp nat_cmp) c.move_all.new.to c.move_all.new.from c.merge_heads.new.right c.move_all-2.new.to c.move_all-2.new.from whole
+    c.in_ok-move_all.ensures.all c.move_all-2.ensures.moved
+    (step-all (slice_cmp nat_cmp) c.merge_heads.new.to c.merge_heads.new.left c.merge_heads.new.right c.move_all.new.to c.move_all.new.from whole
+    (c.in_ok-merge_heads.ensures.over c.if-branch.false) c.move_all.ensures.moved (c.merge_heads.ensures.merging whole c.loop.invariant))

@@ -5,8 +5,8 @@ use Rattle.oas_runs.specs.Merging.{IsMerging}
 use Rattle.oas_runs.proofs.merge.merge.Given as goal
 
 -- what is done, and what is still to come
-abbrev pub invariant-loop-order : goal.invariant-loop-order
-invariant-loop-order l = IsMerging (slice_cmp nat_cmp) l.to l.left l.right (l.fn.left ++ l.fn.right)
+abbrev pub invariant-loop : goal.invariant-loop
+invariant-loop l = IsMerging (slice_cmp nat_cmp) l.to l.left l.right (l.fn.left ++ l.fn.right)
 
-abbrev pub decreases-loop-order : goal.decreases-loop-order
-decreases-loop-order l = length l.left + length l.right
+abbrev pub decreases-loop : goal.decreases-loop
+decreases-loop l = length l.left + length l.right
