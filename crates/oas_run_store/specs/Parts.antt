@@ -1,14 +1,10 @@
 -- What the parts of a store hold.
-use Rattle.std.specs.Prelude.{◌≡◌, ℕ, ◌<◌, ◌^◌, List, [], ◌∷◌, ◌++◌, ◌==◌, cond}
+use Rattle.std.specs.Prelude.{◌≡◌, ℕ, ◌<◌, ◌^◌, List, [], ◌∷◌, ◌++◌}
 use Rattle.std.specs.List.{AllByRecursion}
 use Rattle.std.specs.declared.cmp.Ordering.{Ordering}
 use Rattle.std.specs.declared.cmp.Ordering.TheVariants.{Less, Equal}
 use Rattle.oas_runs.specs.Blocks.{joined}
 use Rattle.oas_runs.specs.Runs.{copies, Positive, IsRun}
-
--- an entry that waits; a count of 0 means that there is none
-abbrev pub waiting : {K : Type 0} → K → ℕ → List (K × ℕ)
-waiting key times = cond (times == 0) [] ((key, times) ∷ [])
 
 module _ {K : Type 0} where
   -- everything that is held, in no order

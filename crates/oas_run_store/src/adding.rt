@@ -7,37 +7,48 @@ ghost use Rattle.oas_runs.specs.Runs.{copies, SameTotals};
 ghost use Rattle.oas_run_store.specs.Parts.{contents, AreParts};
 
 use crate::rising::Rising;
+use crate::sampling::repeats;
 use crate::settling::settle;
 use oas_runs::{Block, Run};
 use std::alloc::{AllocError, Global};
 use std::cmp::Ordering;
 
-/// How many bytes wait loose, about, at most.
-const LOOSE: usize = 1 << 20;
+/// How many bytes wait loose, about, at most, if keys repeat: so many are sorted near the processor.
+pub(crate) const LEAST: usize = 1 << 20;
 
-/// Ensures that one more key can wait loose.
+/// The same if most keys differ: then fewer runs are merged.
+const MOST: usize = 1 << 22;
+
+/// Ensures that one more key can wait loose, beside about `most` bytes.
 fn make_room(
     alloc: Global,
-    rising: &mut Rising<Vec<u8>>,
+    rising: &mut Rising,
     loose: &mut Block,
     runs: &mut Vec<Run>,
+    most: &mut usize,
 ) -> Result<(), AllocError>
     requires { AreParts (slice_cmp nat_cmp) rising.old loose.old runs.old.items }
     ensures parts { AreParts (slice_cmp nat_cmp) rising.new loose.new runs.new.items }
     ensures same { SameTotals (contents rising.new loose.new runs.new.items) (contents rising.old loose.old runs.old.items) }
 {
-    if loose.size() < LOOSE {
+    if loose.size() < *most {
         return Ok(());
     }
+    if *most == LEAST && !repeats(alloc, loose.left()) {
+        *most = MOST;
+        return Ok(());
+    }
+    *most = LEAST;
     settle(alloc, rising, loose, runs)
 }
 
 /// Adds a key this many times to those that wait loose, or nothing.
 fn add_loose(
     alloc: Global,
-    rising: &mut Rising<Vec<u8>>,
+    rising: &mut Rising,
     loose: &mut Block,
     runs: &mut Vec<Run>,
+    most: &mut usize,
     key: &[u8],
     times: u64,
 ) -> Result<(), AllocError>
@@ -48,7 +59,7 @@ fn add_loose(
     ensures ok { OnOk result (SameTotals (contents rising.new loose.new runs.new.items) ((key.now, times) ∷ contents rising.old loose.old runs.old.items)) }
     ensures err { OnErr result (SameTotals (contents rising.new loose.new runs.new.items) (contents rising.old loose.old runs.old.items)) }
 {
-    make_room(alloc, rising, loose, runs)?;
+    make_room(alloc, rising, loose, runs, most)?;
     loose.append(key, times)?;
     Ok(())
 }
@@ -56,9 +67,10 @@ fn add_loose(
 /// Adds a key this many times, or nothing.
 pub(crate) fn add_key(
     alloc: Global,
-    rising: &mut Rising<Vec<u8>>,
+    rising: &mut Rising,
     loose: &mut Block,
     runs: &mut Vec<Run>,
+    most: &mut usize,
     key: &[u8],
     times: u64,
 ) -> Result<(), AllocError>
@@ -75,9 +87,9 @@ pub(crate) fn add_key(
             Ok(())
         }
         Ordering::Equal => {
-            rising.count_last(times);
+            rising.count_last(alloc, times)?;
             Ok(())
         }
-        Ordering::Greater => add_loose(alloc, rising, loose, runs, key, times),
+        Ordering::Greater => add_loose(alloc, rising, loose, runs, most, key, times),
     }
 }

@@ -10,8 +10,9 @@ use oas_runs::{AT_ONCE, after, number_of, order_of, read_entry};
 use std::alloc::{AllocError, Global};
 use std::cmp::Ordering;
 
-/// Where an entry that waits begins, and the twelve bytes of its key after the common prefix of all keys, as two numbers. They
-/// decide most comparisons. It has 16 bytes, so that a sort moves little.
+/// Where an entry that waits begins, and eleven bytes of its key, after those of the first eight that all keys have in common,
+/// with their count behind them, as two numbers. They decide most comparisons, and each of keys without more bytes. It has 16
+/// bytes, so that a sort moves little.
 #[derive(Clone, Copy)]
 pub(crate) struct Loose {
     front: u64,
@@ -28,30 +29,38 @@ impl Loose {
     {
         after(bytes, self.at as usize)
     }
+
+    /// Whether its key has no bytes after these.
+    #[inline(always)]
+    fn is_whole(self) -> bool {
+        self.next % 256 < FRONT as u32
+    }
 }
 
-/// How many bytes are compared before the keys are read.
+/// How many bytes two numbers have: eleven of a key, and their count.
 const FRONT: usize = AT_ONCE + 4;
 
-/// The first twelve bytes as two numbers, each with its first byte highest. Where there are fewer, they are padded with zeros.
+/// The first eleven bytes, and how many there are, or 12 if there are more, as two numbers, each with its first byte highest.
+/// Where there are fewer, they are padded with zeros. So the order of these is that of the bytes, where neither begins with the
+/// other, as with keys of elements. Elsewhere two keys may be taken as equal, which costs a run.
 #[inline(always)]
 fn front_of(bytes: &[u8]) -> (u64, u32) {
     if bytes.len() >= FRONT {
-        return (number_of(bytes), next_of(bytes));
+        return (number_of(bytes), next_of(bytes, FRONT as u8));
     }
     let mut front = [0; FRONT];
     for (to, byte) in front.iter_mut().zip(bytes) {
         *to = *byte;
     }
-    (number_of(&front), next_of(&front))
+    (number_of(&front), next_of(&front, bytes.len() as u8))
 }
 
-/// The four bytes after the first eight, as a number.
+/// The three bytes after the first eight, and a count, as a number.
 #[inline(always)]
-fn next_of(bytes: &[u8]) -> u32
+fn next_of(bytes: &[u8], count: u8) -> u32
     requires { 12 ≤ length bytes.now }
 {
-    u32::from_be_bytes([bytes[8], bytes[9], bytes[10], bytes[11]])
+    u32::from_be_bytes([bytes[8], bytes[9], bytes[10], count])
 }
 
 /// The bytes of a key after this many.
@@ -111,59 +120,57 @@ fn order(one: &Loose, other: &Loose, bytes: &[u8]) -> Ordering {
     if one.next != other.next {
         return one.next.cmp(&other.next);
     }
+    if one.is_whole() {
+        return Ordering::Equal;
+    }
     order_of_keys(one, other, bytes)
 }
 
-/// How many of these bytes a key begins with.
-fn begins_with(key: &[u8], front: &[u8]) -> usize {
-    let most = key.len().min(front.len());
-    let mut shared = 0;
-    if most >= AT_ONCE && number_of(key) == number_of(front) {
-        shared = AT_ONCE;
+/// The first eight bytes as a number with the first byte highest. Where there are fewer, they are padded with zeros.
+#[inline(always)]
+fn eight_of(bytes: &[u8]) -> u64 {
+    if bytes.len() >= AT_ONCE {
+        return number_of(bytes);
     }
-    for i in shared..most {
-        if key[i] != front[i] {
-            return i;
-        }
-    }
-    most
+    front_of(bytes).0
 }
 
-/// How many entries there are, and the common prefix of all their keys.
-#[derive(Drop)]
-struct Common<'a> {
+/// How many entries there are, the first eight bytes of the first key, and the bits in which those of others differ.
+#[derive(Clone, Copy)]
+struct Common {
     count: usize,
-    front: &'a [u8],
+    front: u64,
+    differ: u64,
 }
 
-/// The bytes of this prefix that a key begins with too.
-fn shared_with<'a>(front: &'a [u8], key: &[u8]) -> &'a [u8] {
-    match front.get(..begins_with(key, front)) {
-        Some(shared) => shared,
-        None => front,
-    }
-}
-
-impl<'a> Common<'a> {
+impl Common {
     /// The same with one more key.
-    fn with(self, key: &[u8]) -> Common<'a> {
+    #[inline(always)]
+    fn with(self, key: &[u8]) -> Common {
         Common {
             count: self.count.saturating_add(1),
-            front: shared_with(self.front, key),
+            front: self.front,
+            differ: self.differ | (eight_of(key) ^ self.front),
         }
+    }
+
+    /// How many of the first eight bytes are the same in all keys.
+    fn shared(self) -> usize {
+        (self.differ.leading_zeros() / u8::BITS) as usize
     }
 }
 
 /// What all keys of a block have in common.
-fn common_to_all(bytes: &[u8]) -> Common<'_>
+fn common_to_all(bytes: &[u8]) -> Common
     requires { IsBlock bytes.now }
 {
     let mut common = Common {
         count: 0,
         front: match read_entry(bytes) {
-            Some(entry) => entry.key,
-            None => &[],
+            Some(entry) => eight_of(entry.key),
+            None => 0,
         },
+        differ: 0,
     };
     let mut left = bytes;
     while let Some(entry) = read_entry(left) {
@@ -171,6 +178,26 @@ fn common_to_all(bytes: &[u8]) -> Common<'_>
         left = after(left, entry.end);
     }
     common
+}
+
+/// In fewer bytes than this it isn't worth the time to find what keys have in common.
+const FEW: usize = 4096;
+
+/// Most entries have at least this many bytes.
+const SHORT: usize = 16;
+
+/// What the keys of a block are taken to have in common: nothing, where they are few.
+fn common_to(bytes: &[u8]) -> Common
+    requires { IsBlock bytes.now }
+{
+    if bytes.len() < FEW {
+        return Common {
+            count: bytes.len() / SHORT + 1,
+            front: 0,
+            differ: u64::MAX,
+        };
+    }
+    common_to_all(bytes)
 }
 
 /// Where the entries of a block begin. Memory for this many is reserved at once.
@@ -207,9 +234,8 @@ pub(crate) fn in_order(alloc: Global, bytes: &[u8]) -> Result<Vec<Loose>, AllocE
     ensures begin { IfOk result (λ all. All (Begins bytes.now) all.items) }
     ensures same { IfOk result (λ all. SameTotals (entries_of bytes.now all.items) (entries bytes.now)) }
 {
-    let common = common_to_all(bytes);
-    let shared = common.front.len();
-    let mut all = begins_of(alloc, bytes, common.count, shared)?;
+    let common = common_to(bytes);
+    let mut all = begins_of(alloc, bytes, common.count, common.shared())?;
     all.sort_unstable_by(|one, other| order(one, other, bytes));
     Ok(all)
 }

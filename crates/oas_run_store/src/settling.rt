@@ -11,7 +11,6 @@ ghost use Rattle.oas_runs.specs.Blocks.{joined};
 ghost use Rattle.oas_run_store.specs.Parts.{contents, AreRuns, AreParts, CountsFit};
 
 use crate::joining::{add_run, join_all, join_close};
-use crate::last::LastKey;
 use crate::loose::{Loose, in_order};
 use crate::rising::Rising;
 use oas_runs::{BLOCK, Block, Run, read_entry};
@@ -19,11 +18,7 @@ use std::alloc::{AllocError, Global};
 use std::cmp::Ordering;
 
 /// Closes a rising run, if it has begun, so that another begins; or changes nothing.
-fn settle_rising<K: LastKey>(
-    alloc: Global,
-    rising: &mut Rising<K>,
-    runs: &mut Vec<Run>,
-) -> Result<(), AllocError>
+fn settle_rising(alloc: Global, rising: &mut Rising, runs: &mut Vec<Run>) -> Result<(), AllocError>
     requires run { IsRun (slice_cmp nat_cmp) rising.old }
     requires runs { AreRuns (slice_cmp nat_cmp) runs.old.items }
     requires fits { CountsFit (slice_cmp nat_cmp) (rising.old ++ joined runs.old.items) }
@@ -36,17 +31,17 @@ fn settle_rising<K: LastKey>(
         return Ok(());
     }
     runs.reserve(1)?;
-    let run = rising.close(alloc)?;
+    let run = rising.close(alloc);
     add_run(alloc, runs, run);
     Ok(())
 }
 
 /// Adds a key to the run that is made of entries in order; where that run is above it, another begins.
-fn put_next<'a>(
+fn put_next(
     alloc: Global,
-    summing: &mut Rising<&'a [u8]>,
+    summing: &mut Rising,
     runs: &mut Vec<Run>,
-    key: &'a [u8],
+    key: &[u8],
     times: u64,
 ) -> Result<(), AllocError>
     requires run { IsRun (slice_cmp nat_cmp) summing.old }
@@ -60,22 +55,22 @@ fn put_next<'a>(
         return Ok(());
     }
     match summing.order_of_last(key) {
-        Ordering::Less => summing.push_held(alloc, key, times)?,
-        Ordering::Equal => summing.count_last(times),
+        Ordering::Less => summing.push(alloc, key, times)?,
+        Ordering::Equal => summing.count_last(alloc, times)?,
         Ordering::Greater => {
             settle_rising(alloc, summing, runs)?;
-            summing.push_held(alloc, key, times)?;
+            summing.push(alloc, key, times)?;
         }
     }
     Ok(())
 }
 
 /// Adds the entry in front of these bytes to that run.
-fn put_first<'a>(
+fn put_first(
     alloc: Global,
-    summing: &mut Rising<&'a [u8]>,
+    summing: &mut Rising,
     runs: &mut Vec<Run>,
-    left: &'a [u8],
+    left: &[u8],
 ) -> Result<(), AllocError>
     requires block { IsBlock left.now }
     requires run { IsRun (slice_cmp nat_cmp) summing.old }
@@ -163,7 +158,7 @@ fn add_block(
 /// Puts the rising run among what waits loose; where it has several blocks, it becomes one of the runs.
 fn loosen(
     alloc: Global,
-    rising: &mut Rising<Vec<u8>>,
+    rising: &mut Rising,
     loose: &mut Block,
     runs: &mut Vec<Run>,
 ) -> Result<(), AllocError>
@@ -173,7 +168,7 @@ fn loosen(
     ensures ok { OnOk result (rising.new ≡ []) }
 {
     runs.reserve(1)?;
-    let run = rising.close(alloc)?;
+    let run = rising.close(alloc);
     match run.into_block() {
         Ok(block) => add_block(alloc, loose, runs, block),
         Err(whole) => {
@@ -187,7 +182,7 @@ fn loosen(
 /// sorting them together.
 fn settle_long(
     alloc: Global,
-    rising: &mut Rising<Vec<u8>>,
+    rising: &mut Rising,
     loose: &Block,
     runs: &mut Vec<Run>,
 ) -> Result<(), AllocError>
@@ -204,7 +199,7 @@ fn settle_long(
 /// Makes runs of the rising run and of the loose keys, so that both begin anew. If out of memory, all is still held.
 pub(crate) fn settle(
     alloc: Global,
-    rising: &mut Rising<Vec<u8>>,
+    rising: &mut Rising,
     loose: &mut Block,
     runs: &mut Vec<Run>,
 ) -> Result<(), AllocError>
@@ -215,6 +210,9 @@ pub(crate) fn settle(
     ensures loose { OnOk result (loose.new ≡ []) }
 {
     settle_long(alloc, rising, loose, runs)?;
+    if rising.is_empty() && loose.is_empty() {
+        return Ok(());
+    }
     loosen(alloc, rising, loose, runs)?;
     settle_loose(alloc, loose, runs)
 }
@@ -222,7 +220,7 @@ pub(crate) fn settle(
 /// Makes one run of all, or none where there are no keys, and returns whether it did. If out of memory, all is still held.
 pub(crate) fn settle_all(
     alloc: Global,
-    rising: &mut Rising<Vec<u8>>,
+    rising: &mut Rising,
     loose: &mut Block,
     runs: &mut Vec<Run>,
 ) -> bool

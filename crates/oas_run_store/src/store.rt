@@ -7,9 +7,9 @@ ghost use Rattle.oas_elements.specs.Bag.{put_more};
 ghost use Rattle.oas_runs.specs.Runs.{IsRun};
 ghost use Rattle.oas_run_store.specs.Tally.{count_at};
 
-use crate::adding::add_key;
+use crate::adding::{LEAST, add_key};
 use crate::rising::Rising;
-use crate::settling::settle_all;
+use crate::settling::{settle, settle_all};
 use oas_runs::{Block, Growing, Run};
 use std::alloc::{AllocError, Global};
 use std::marker::Model;
@@ -21,9 +21,10 @@ const FEW: usize = 4096;
 #[derive(Drop)]
 pub struct KeyStore {
     alloc: Global,
-    rising: Rising<Vec<u8>>,
+    rising: Rising,
     loose: Block,
     runs: Vec<Run>,
+    most: usize,
 }
 
 impl Model for KeyStore {
@@ -51,6 +52,7 @@ impl KeyStore {
             rising: Rising::new(alloc),
             loose: Block::new(alloc),
             runs: Vec::new(alloc),
+            most: LEAST,
         }
     }
 
@@ -65,6 +67,7 @@ impl KeyStore {
             rising: Rising::new(alloc),
             loose: block,
             runs: Vec::new(alloc),
+            most: LEAST,
         }
     }
 
@@ -80,18 +83,32 @@ impl KeyStore {
             &mut self.rising,
             &mut self.loose,
             &mut self.runs,
+            &mut self.most,
             key,
             times,
         )?;
         Ok(())
     }
 
+    /// Puts all keys into runs, so that keys which come in order from now on are put into a run of their own, wherever it begins.
+    /// If out of memory it may have put some.
+    pub fn settle(&mut self) -> Result<(), AllocError>
+        ensures { self.new ≡ self.old }
+    {
+        settle(
+            self.alloc,
+            &mut self.rising,
+            &mut self.loose,
+            &mut self.runs,
+        )
+    }
+
     /// Gives back memory that is idle as long as no key is added.
     pub fn rest(&mut self)
         ensures { self.new ≡ self.old }
     {
-        self.rising.fit();
-        self.loose.fit(0);
+        self.rising.fit(self.alloc);
+        self.loose.fit(self.alloc);
     }
 
     /// Whether the keys are few.

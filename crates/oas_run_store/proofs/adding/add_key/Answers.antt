@@ -19,14 +19,14 @@ pub returns-in_ok-push-in-Less-clause-ok : goal.returns-in_ok-push-in-Less-claus
 returns-in_ok-push-in-Less-clause-ok c = more_rising c.args.rising.now c.push.new.self c.args.loose.now c.args.runs.now.items c.args.key.now
     c.args.times (more_push c.args.rising.now c.push.new.self c.args.key.now c.args.times c.in_ok-push-in-Less.ensures.ok)
 
-pub returns-in-Equal-clause-parts : goal.returns-in-Equal-clause-parts
-returns-in-Equal-clause-parts c =
+pub returns-in_ok-count_last-in-Equal-clause-parts : goal.returns-in_ok-count_last-in-Equal-clause-parts
+returns-in_ok-count_last-in-Equal-clause-parts c =
     parts_rising nat_list_cmp_total exact_bytes c.args.rising.now c.count_last.new.self c.args.loose.now c.args.runs.now.items c.args.key.now c.args.times c.requires.parts
     (run_count nat_list_cmp_total c.args.rising.now c.count_last.new.self c.args.key.now c.args.times (c.order_of_last.ensures.last c.in-Equal.is)
-    c.count_last.ensures c.requires.some c.requires.parts.ascends)
-    (more_count exact_bytes c.args.rising.now c.count_last.new.self c.args.key.now c.args.times (c.order_of_last.ensures.last c.in-Equal.is) c.count_last.ensures)
+    c.in_ok-count_last-in-Equal.ensures.ok c.requires.some c.requires.parts.ascends)
+    (more_count exact_bytes c.args.rising.now c.count_last.new.self c.args.key.now c.args.times (c.order_of_last.ensures.last c.in-Equal.is) c.in_ok-count_last-in-Equal.ensures.ok)
     c.requires.room
 
-pub returns-in-Equal-clause-ok : goal.returns-in-Equal-clause-ok
-returns-in-Equal-clause-ok c = more_rising c.args.rising.now c.count_last.new.self c.args.loose.now c.args.runs.now.items c.args.key.now c.args.times
-    (more_count exact_bytes c.args.rising.now c.count_last.new.self c.args.key.now c.args.times (c.order_of_last.ensures.last c.in-Equal.is) c.count_last.ensures)
+pub returns-in_ok-count_last-in-Equal-clause-ok : goal.returns-in_ok-count_last-in-Equal-clause-ok
+returns-in_ok-count_last-in-Equal-clause-ok c = more_rising c.args.rising.now c.count_last.new.self c.args.loose.now c.args.runs.now.items c.args.key.now c.args.times
+    (more_count exact_bytes c.args.rising.now c.count_last.new.self c.args.key.now c.args.times (c.order_of_last.ensures.last c.in-Equal.is) c.in_ok-count_last-in-Equal.ensures.ok)

@@ -8,30 +8,30 @@ use Rattle.oas_run_store.proofs.settling.loosen.Goals as goal
 pub add_block-requires-clause-fits : goal.add_block-requires-clause-fits
 add_block-requires-clause-fits c =
     settled_fit (slice_cmp nat_cmp) c.args.rising.now c.in-Ok.block c.args.runs.now.items c.reserve.new.self.items
-    (c.in-Ok.ensures.ok ∙ c.in_ok-run.ensures.ok) c.in_ok-reserve.ensures.items
+    (c.in-Ok.ensures.ok ∙ c.close-run.ensures.run) c.in_ok-reserve.ensures.items
     (rising_fit (slice_cmp nat_cmp) c.args.rising.now c.args.loose.now c.args.runs.now.items c.requires.fits)
 
 pub add_run-requires-clause-fits : goal.add_run-requires-clause-fits
 add_run-requires-clause-fits c =
     settled_fit (slice_cmp nat_cmp) c.args.rising.now c.in-Err.whole c.args.runs.now.items c.reserve.new.self.items
-    (c.in-Err.ensures.err ∙ c.in_ok-run.ensures.ok) c.in_ok-reserve.ensures.items
+    (c.in-Err.ensures.err ∙ c.close-run.ensures.run) c.in_ok-reserve.ensures.items
     (rising_fit (slice_cmp nat_cmp) c.args.rising.now c.args.loose.now c.args.runs.now.items c.requires.fits)
 
 pub returns-in-Ok-clause-parts : goal.returns-in-Ok-clause-parts
 returns-in-Ok-clause-parts c =
-    risen_parts (slice_cmp nat_cmp) c.args.rising.now c.close.new.self c.args.loose.now c.add_block.new.loose c.in-Ok.block c.args.runs.now.items
-    c.reserve.new.self.items c.add_block.new.runs.items c.requires (c.in-Ok.ensures.ok ∙ c.in_ok-run.ensures.ok) c.in_ok-run.ensures.emptied
+    risen_parts (slice_cmp nat_cmp) c.args.rising.now c.close-run.new.self c.args.loose.now c.add_block.new.loose c.in-Ok.block c.args.runs.now.items
+    c.reserve.new.self.items c.add_block.new.runs.items c.requires (c.in-Ok.ensures.ok ∙ c.close-run.ensures.run) c.close-run.ensures.emptied
     c.in_ok-reserve.ensures.items c.add_block.ensures.waits c.add_block.ensures.runs c.add_block.ensures.same
 
 pub returns-in-Err-clause-parts : goal.returns-in-Err-clause-parts
 returns-in-Err-clause-parts c =
-    risen_parts (slice_cmp nat_cmp) c.args.rising.now c.close.new.self c.args.loose.now c.args.loose.now c.in-Err.whole c.args.runs.now.items
-    c.reserve.new.self.items c.add_run.new.runs.items c.requires (c.in-Err.ensures.err ∙ c.in_ok-run.ensures.ok) c.in_ok-run.ensures.emptied
+    risen_parts (slice_cmp nat_cmp) c.args.rising.now c.close-run.new.self c.args.loose.now c.args.loose.now c.in-Err.whole c.args.runs.now.items
+    c.reserve.new.self.items c.add_run.new.runs.items c.requires (c.in-Err.ensures.err ∙ c.close-run.ensures.run) c.close-run.ensures.emptied
     c.in_ok-reserve.ensures.items c.requires.waits c.add_run.ensures.runs
     (block_run c.args.loose.now c.args.loose.now c.in-Err.whole c.in-Err.whole c.reserve.new.self.items c.add_run.new.runs.items refl refl c.add_run.ensures.same)
 
 pub returns-in-Err-clause-same : goal.returns-in-Err-clause-same
 returns-in-Err-clause-same c =
-    risen_same c.args.rising.now c.close.new.self c.args.loose.now c.args.loose.now c.in-Err.whole c.args.runs.now.items
-    c.reserve.new.self.items c.add_run.new.runs.items (c.in-Err.ensures.err ∙ c.in_ok-run.ensures.ok) c.in_ok-run.ensures.emptied c.in_ok-reserve.ensures.items
+    risen_same c.args.rising.now c.close-run.new.self c.args.loose.now c.args.loose.now c.in-Err.whole c.args.runs.now.items
+    c.reserve.new.self.items c.add_run.new.runs.items (c.in-Err.ensures.err ∙ c.close-run.ensures.run) c.close-run.ensures.emptied c.in_ok-reserve.ensures.items
     (block_run c.args.loose.now c.args.loose.now c.in-Err.whole c.in-Err.whole c.reserve.new.self.items c.add_run.new.runs.items refl refl c.add_run.ensures.same)
