@@ -20,12 +20,13 @@ use Rattle.oas_reader.specs.Meaning.{element_by, with_element, elements_by_name}
 use Rattle.oas_reader.proofs.Alike.{weighed, sum-meant}
 use Rattle.oas_reader.proofs.TakeLemmas.{all_append}
 use Rattle.oas_reader.proofs.WeighLemmas.{sum_two}
-use Rattle.oas_cells.specs.Compact.{Compact, by_key, by_number, Keeps, IsKey, AreKeys, IsSoundNamed, Waits}
-use Rattle.oas_cells.specs.Placing.{with_placed, placed, MeansElements, IsSoundBy, AreSoundBy}
+use Rattle.oas_cells.specs.Compact.{Compact, by_key, by_number, Keeps, IsKey, AreKeys, IsSoundNamed, SameWaiting, Waits}
+use Rattle.oas_cells.specs.Placing.{with_placed, placed, MeansElements, IsSoundBy, AreSoundBy, Places}
 use Rattle.oas_cells.specs.Laws.CompactLaws.{waits_for}
 use Rattle.oas_cells.proofs.KeptLemmas.{normal_sound}
 use Rattle.oas_cells.proofs.DrawLemmas.{all-put_more, few_is, keys_more}
-use Rattle.oas_cells.proofs.WaitLemmas.{total-append, all_front, all_back}
+use Rattle.oas_cells.proofs.WaitLemmas.{total-append, all_front, all_back, all_both}
+use Rattle.oas_cells.proofs.SortLemmas.{sound_again}
 
 -- ---- a key that is added
 
@@ -82,18 +83,19 @@ module _ (profile : Profile) (names strings : List (ℕ × List ℕ)) where
   by_both g (TextBy number textlayer texttype x y) = omega arith
 
   -- all that is meant
-  pub means : (c : Compact) (ds : List Drawn) (ks : List Entry) → Keeps profile c ds → ks ≡ placed profile names strings c.waiting c.keys → MeansElements profile ks (elements_by_name names strings ds)
+  pub means : (c : Compact) (ds : List Drawn) (ks : List Entry) → Keeps profile c ds → Places profile names strings c.waiting c.keys ks → MeansElements profile ks (elements_by_name names strings ds)
   means c ds ks h is = record { sums = all }
     where
       all : (g : List ℕ → ℕ) → total g ks ≡ sum_by (kept_key g) (elements_by_name names strings ds)
       all g =
           let split = sum_two (by_key profile g) (by_number (meant_key g)) ds in
           let same : sum_by (λ d. by_key profile g d + by_number (meant_key g) d) ds ≡ sum_by (meant_key g) ds = λ i. sum_by (λ d. by_both g d i) ds in
-          let whole = ap (total g) is ∙ all_placed g c.waiting c.keys in
+          let whole = ap (total g) is.is ∙ all_placed g is.order c.keys in
+          let order = is.same (meant_key g) in
           let keys = h.keys g in
           let waiting = h.waiting (meant_key g) in
           let meant = sum-meant names strings (kept_key g) ds in
-          omega (arith, whole, keys, waiting, split, same, meant)
+          omega (arith, whole, order, keys, waiting, split, same, meant)
 
 -- ---- soundness
 
@@ -192,3 +194,24 @@ module _ (ws ps qs : List (Drawn × ℕ)) (parts : ps ++ qs ≡ ws) where
     pub both_placed : (ms : List Entry) → ms ≡ placed profile names strings qs ls → ms ≡ placed profile names strings ws ks
     both_placed ms e =
         e ∙ (ap (placed profile names strings qs) is ∙ (sym (in_turn profile names strings ps qs ks) ∙ ap (λ (xs : List (Drawn × ℕ)). placed profile names strings xs ks) parts))
+
+-- what waits in chunks in another order, and the rest
+module _ (ws ps qs others : List (Drawn × ℕ)) (parts : ps ++ others ≡ ws) (same : SameWaiting qs ps) where
+  reordered : SameWaiting (qs ++ others) ws
+  reordered g = omega (arith, total-append g qs others, same g, total-append g ps others, ap (total g) parts)
+
+  pub waits_in_order : AllByRecursion Waits ws → (AllByRecursion Waits ps → AllByRecursion Waits qs) → AllByRecursion Waits (qs ++ others)
+  waits_in_order a again = all_both qs others (again (first_waits ws ps others parts a)) (then_waits ws ps others parts a)
+
+  pub room_in_order : (ks : List Entry) → total (λ _. 1) ks + total (λ _. 1) ws < 2 ^ 64 → total (λ _. 1) ks + total (λ _. 1) (qs ++ others) < 2 ^ 64
+  room_in_order ks h = omega (arith, reordered (λ _. 1), h)
+
+  pub places_in_order : (profile : Profile) (names strings : List (ℕ × List ℕ)) (ks ms : List Entry) → ms ≡ placed profile names strings (qs ++ others) ks → Places profile names strings ws ks ms
+  places_in_order profile names strings ks ms is = record { order = qs ++ others; same = reordered; is = is }
+
+  pub sound_in_order : (names strings : List (ℕ × List ℕ)) → AllByRecursion Waits ws → AreSoundBy names strings (qs ++ others) → AreSoundBy names strings ws
+  sound_in_order names strings a sound = sound_again (IsSoundBy names strings) (qs ++ others) ws reordered a sound
+
+-- nothing waits
+pub places_none : (profile : Profile) (names strings : List (ℕ × List ℕ)) (ks : List Entry) → Places profile names strings [] ks ks
+places_none profile names strings ks = record { order = []; same = λ g. refl; is = refl }

@@ -37,7 +37,7 @@ pub all_back : (ps qs : List (Drawn × ℕ)) → AllByRecursion Waits (ps ++ qs)
 all_back [] qs a = a
 all_back (p ∷ ps) qs a = all_back ps qs a.1
 
-all_both : (ps qs : List (Drawn × ℕ)) → AllByRecursion Waits ps → AllByRecursion Waits qs → AllByRecursion Waits (ps ++ qs)
+pub all_both : (ps qs : List (Drawn × ℕ)) → AllByRecursion Waits ps → AllByRecursion Waits qs → AllByRecursion Waits (ps ++ qs)
 all_both [] qs a b = b
 all_both (p ∷ ps) qs a b = (a.0, all_both ps qs a.1 b)
 

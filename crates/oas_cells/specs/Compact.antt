@@ -75,6 +75,10 @@ pub record Waits (p : Drawn × ℕ) : Type 0 where
   pub numbered : is_named p.0 ≡ false
   pub some : 0 < p.1
 
+-- the same waits, in any order: whatever each counts for, the sums are equal
+abbrev pub SameWaiting : List (Drawn × ℕ) → List (Drawn × ℕ) → Type 0
+SameWaiting ps qs = (g : Drawn → ℕ) → total g ps ≡ total g qs
+
 -- something more waits, this many times: whatever each counts for, the sum is that much more
 pub record WaitsMore (old : List (Drawn × ℕ)) (d : Drawn) (n : ℕ) (new : List (Drawn × ℕ)) : Type 0 where
   pub sums : (g : Drawn → ℕ) → total g new ≡ total g old + n * g d

@@ -2,7 +2,9 @@ pub use Rattle.oas_keys.specs.Keys
 pub use Rattle.oas_keys.specs.Laws.FieldLaws
 pub use Rattle.oas_keys.specs.Laws.KeyLaws
 pub use Rattle.oas_keys.specs.Reading
+pub use Rattle.oas_keys.specs.Steps
 pub use Rattle.oas_keys.specs.declared.points.SpelledPoints
+pub use Rattle.oas_keys.specs.declared.points.SpelledSteps
 pub use Rattle.oas_run_store.specs.Laws.TallyLaws
 pub use Rattle.oas_run_store.specs.Tally
 pub mod Forms
@@ -10,4 +12,5 @@ pub mod Short
 pub mod Compact
 pub mod Weighing
 pub mod Placing
+pub mod Spreading
 pub mod Laws

@@ -11,6 +11,7 @@ use Rattle.oas_elements.specs.Same.{normal}
 use Rattle.oas_elements.specs.Sound.{IsSound}
 use Rattle.oas_keys.specs.Keys.{key_of}
 use Rattle.oas_runs.specs.Entries.{Entry}
+use Rattle.oas_cells.specs.Compact.{SameWaiting}
 use Rattle.oas_reader.specs.Drawn.{Drawn}
 use Rattle.oas_reader.specs.Meaning.{element_by}
 
@@ -35,3 +36,9 @@ AreSoundBy names strings ps = AllByRecursion (λ p. IsSoundBy names strings p.0)
 -- of each kept form there are as many keys as elements: whatever each key counts for, the sums are equal
 pub record MeansElements (profile : Profile) (ks : List Entry) (es : List Element) : Type 0 where
   pub sums : (g : List ℕ → ℕ) → total g ks ≡ sum_by (λ e. g (key_of (normal profile e))) es
+
+-- all that waits is placed, in some order
+pub record Places (profile : Profile) (names strings : List (ℕ × List ℕ)) (ws : List (Drawn × ℕ)) (old new : List Entry) : Type 0 where
+  pub order : List (Drawn × ℕ)
+  pub same : SameWaiting order ws
+  pub is : new ≡ placed profile names strings order old

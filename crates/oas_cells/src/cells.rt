@@ -21,6 +21,8 @@ ghost use Rattle.oas_cells.specs.Placing.{MeansElements};
 use crate::elements::ElementStore;
 use crate::placing::place_all;
 use crate::profiles::KeptBy;
+use crate::ranking::Ranks;
+use crate::sorting::MANY;
 use crate::waiting::Waiting;
 use oas_elements::{Element, Turns};
 use oas_num::{Label, Name, Why};
@@ -58,8 +60,14 @@ impl<P: KeptBy> Model for CompactCell<P> {
 
 impl<P: KeptBy> CompactCell<P> {
     /// The run of the keys of all elements by the tables of the whole file, in their kept forms; or out of memory. What is
-    /// drawn by a number that has no name isn't among them.
-    pub fn into_run(self, names: &NameTable<Name>, strings: &NameTable<Label>) -> Result<Run, Why>
+    /// drawn by a number that has no name isn't among them. It is the same with ranks as without, and faster with them where
+    /// much waits (`ranks_for`).
+    pub fn into_run(
+        self,
+        names: &NameTable<Name>,
+        strings: &NameTable<Label>,
+        ranks: Option<&Ranks>,
+    ) -> Result<Run, Why>
         requires { IsCompact P.profile self }
         ensures run { IfOk result (λ run. IsRun (slice_cmp nat_cmp) run) }
         ensures keys { IfOk result (λ run. AreKeys P.profile run) }
@@ -72,7 +80,7 @@ impl<P: KeptBy> CompactCell<P> {
             waiting,
             ..
         } = self;
-        place_all(P::profile(), &mut kept, waiting, names, strings)?;
+        place_all(P::profile(), &mut kept, waiting, names, strings, ranks)?;
         let run = kept.close()?;
         Ok(run)
     }
@@ -249,6 +257,34 @@ impl<P: KeptBy> Weighed for CompactCell<P> {
         let waiting = self.waiting.weight_by(names, strings)?;
         Some(head.saturating_add(self.weight.saturating_add(waiting)))
     }
+}
+
+/// How many names are worth their ranks, for each that waits for one.
+const NAMES: usize = 4;
+
+/// The ranks by which [`CompactCell::into_run`] is faster, where enough waits in some of these cells that they are worth their
+/// time; or out of memory.
+pub fn ranks_for<P: KeptBy>(
+    alloc: Global,
+    cells: &[CompactCell<P>],
+    names: &NameTable<Name>,
+    strings: &NameTable<Label>,
+) -> Result<Option<Ranks>, AllocError> {
+    let mut waiting = 0usize;
+    for cell in cells {
+        let count = cell.waiting.count();
+        if count >= MANY {
+            waiting = waiting.saturating_add(count);
+        }
+    }
+    let all = names
+        .in_order()
+        .len()
+        .saturating_add(strings.in_order().len());
+    if waiting == 0 || all / NAMES > waiting {
+        return Ok(None);
+    }
+    Ok(Some(Ranks::of(alloc, names, strings)?))
 }
 
 /// The element, where it isn't drawn by a number.

@@ -13,7 +13,7 @@ use std::mem;
 const CHUNK: usize = 4096;
 
 /// How many more a chunk reserves room for at once, at least.
-const LEAST: usize = 4;
+const LEAST: usize = 32;
 
 /// How much of the present size it reserves at once: a quarter, so that little of it is idle.
 const PART: usize = 4;
@@ -36,7 +36,7 @@ impl Model for Chunk {
 
 impl Chunk {
     /// Nothing, and no memory.
-    fn new(alloc: Global) -> Chunk
+    pub(crate) fn new(alloc: Global) -> Chunk
         ensures { result ≡ [] }
     {
         Chunk {
@@ -49,15 +49,18 @@ impl Chunk {
         self.shorts.len() >= CHUNK
     }
 
-    /// Gives back idle memory.
-    fn fit(&mut self)
+    /// Gives back idle memory: what waits moves into memory of just its size, which leaves no small hole behind it. If out of
+    /// memory nothing changes.
+    fn fit(&mut self, alloc: Global)
         ensures { self.new ≡ self.old }
     {
-        self.shorts.shrink_to_fit();
+        if let Ok(shorts) = Vec::from_slice(alloc, &self.shorts) {
+            self.shorts = shorts;
+        }
     }
 
     /// Puts one more at the end. If out of memory it puts nothing.
-    fn push(&mut self, short: Short) -> Result<(), AllocError>
+    pub(crate) fn push(&mut self, short: Short) -> Result<(), AllocError>
         ensures ok { OnOk result (self.new ≡ self.old ++ (drawn_of short, 1) ∷ []) }
         ensures err { OnErr result (self.new ≡ self.old) }
     {
@@ -123,7 +126,13 @@ impl Chunks {
     pub(crate) fn rest(&mut self)
         ensures { self.new ≡ self.old }
     {
-        self.last.fit();
+        self.last.fit(self.alloc);
+    }
+
+    /// How much waits, about.
+    pub(crate) fn count(&self) -> usize {
+        let full = self.full.len().saturating_mul(CHUNK);
+        full.saturating_add(self.last.shorts.len())
     }
 
     /// All chunks in a row.

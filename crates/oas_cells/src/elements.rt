@@ -114,6 +114,7 @@ impl ElementStore {
             return Ok(());
         };
         let mut filling = Box::new(self.alloc, Filling::new(self.alloc))?;
+        filling.reserve()?;
         filling.begin(mem::replace(block, Block::new(self.alloc)));
         self.form = Form::Open(filling);
         Ok(())
@@ -188,6 +189,16 @@ impl ElementStore {
         match &mut self.form {
             Form::Open(filling) => filling.add_text(string, textlayer, texttype, x, y, times),
             Form::Closed(_) => Err(AllocError),
+        }
+    }
+
+    /// Lets elements whose keys come in order from now on be a run of their own. If out of memory all is still there.
+    pub(crate) fn settle(&mut self) -> Result<(), AllocError>
+        ensures { self.new ≡ self.old }
+    {
+        match &mut self.form {
+            Form::Open(filling) => filling.settle(),
+            Form::Closed(_) => Ok(()),
         }
     }
 

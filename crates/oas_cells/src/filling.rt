@@ -1,9 +1,9 @@
 //! Elements that are being added, as their keys.
 
-ghost use Rattle.std.specs.Prelude.{◌≡◌, ◌+◌, ◌<◌, ◌^◌, List, ℕ, [], false, true, OnOk, OnErr, IfOk, IfSome, IfNone};
+ghost use Rattle.std.specs.Prelude.{◌≡◌, ◌+◌, ◌<◌, ◌^◌, ◌++◌, length, List, ℕ, [], false, true, OnOk, OnErr, IfOk, IfSome, IfNone};
 ghost use Rattle.std.specs.Ordering.{nat_cmp};
 ghost use Rattle.std.specs.Cmp.Lexicographic.{slice_cmp};
-ghost use Rattle.oas_elements.specs.declared.element.Element.TheVariants.{Placement, Text};
+ghost use Rattle.oas_elements.specs.declared.element.Element.TheVariants.{Placement, Text, Polygon};
 ghost use Rattle.oas_elements.specs.Bag.{put_more};
 ghost use Rattle.oas_elements.specs.Laws.BagLaws.{total};
 ghost use Rattle.oas_elements.specs.Grid.{fits_grid};
@@ -13,13 +13,17 @@ ghost use Rattle.oas_elements.specs.Weight.{lacks_points};
 ghost use Rattle.oas_keys.specs.Keys.{key_of};
 ghost use Rattle.oas_runs.specs.Runs.{IsRun};
 
-use oas_elements::{Element, Profile, Turns};
-use oas_keys::{put_key, put_placement_key, put_text_key};
+use oas_elements::{Element, KeptPolygon, Profile, Turns, kept_ring};
+use oas_keys::{put_key, put_placement_key, put_polygon_key, put_rectangle_key, put_text_key};
 use oas_num::{Label, Name};
+use oas_ring::Point;
 use oas_run_store::KeyStore;
 use oas_runs::{Block, Run};
 use std::alloc::{AllocError, Global};
 use std::marker::Model;
+
+/// How many bytes are reserved for a key at once. Most keys have fewer.
+const KEY: usize = 512;
 
 /// Elements while more are added; contracts see the ascending list of their keys with counts.
 #[derive(Drop)]
@@ -51,6 +55,13 @@ impl Filling {
         }
     }
 
+    /// Reserves memory for a key, so that it grows seldom.
+    pub(crate) fn reserve(&mut self) -> Result<(), AllocError>
+        ensures { self.new ≡ self.old }
+    {
+        self.key.reserve_exact(KEY)
+    }
+
     /// Begins anew with the keys of a block.
     pub(crate) fn begin(&mut self, block: Block)
         requires run { IsRun (slice_cmp nat_cmp) block }
@@ -77,7 +88,7 @@ impl Filling {
         ensures err { OnErr result (self.new ≡ self.old) }
     {
         element.fits();
-        put_kept(self.alloc, profile, element, &mut self.key)?;
+        put_kept(profile, element, &mut self.key)?;
         self.keys.add(&self.key, times)?;
         Ok(())
     }
@@ -131,6 +142,13 @@ impl Filling {
         Ok(())
     }
 
+    /// Lets keys that come in order from now on be a run of their own. If out of memory all is still there.
+    pub(crate) fn settle(&mut self) -> Result<(), AllocError>
+        ensures { self.new ≡ self.old }
+    {
+        self.keys.settle()
+    }
+
     /// Gives back memory that is idle until the next element is added.
     pub(crate) fn pause(&mut self)
         ensures { self.new ≡ self.old }
@@ -167,19 +185,49 @@ impl Filling {
 
 /// Puts the key of an element in its kept form in place of what was there.
 #[inline(always)]
-fn put_kept(
-    alloc: Global,
-    profile: Profile,
-    element: &Element,
-    key: &mut Vec<u8>,
-) -> Result<(), AllocError>
+fn put_kept(profile: Profile, element: &Element, key: &mut Vec<u8>) -> Result<(), AllocError>
     requires { IsSound element.now }
     ensures { OnOk result (key.new.items ≡ key_of (normal profile element.now)) }
 {
     key.clear();
-    match element.kept_form(alloc, profile)? {
-        Some(kept) => put_key(&kept, key)?,
-        None => put_key(element, key)?,
+    match element {
+        Element::Polygon {
+            layer,
+            datatype,
+            points,
+        } => put_kept_polygon(profile, *layer, *datatype, points.as_slice(), key),
+        Element::Placement { .. }
+        | Element::Text { .. }
+        | Element::Rectangle { .. }
+        | Element::Path { .. }
+        | Element::Circle { .. } => put_key(element, key),
     }
-    Ok(())
+}
+
+/// Puts the key of the polygon with these points in its kept form after what `key` has. If out of memory, `key` has what it
+/// had.
+fn put_kept_polygon(
+    profile: Profile,
+    layer: u64,
+    datatype: u64,
+    ring: &[Point],
+    key: &mut Vec<u8>,
+) -> Result<(), AllocError>
+    requires some { 0 < length ring.now }
+    requires inside { fits_grid (Polygon layer datatype ring.now) ≡ true }
+    ensures ok { OnOk result (key.new.items ≡ key.old.items ++ key_of (normal profile (Polygon layer datatype ring.now))) }
+    ensures err { OnErr result (key.new.items ≡ key.old.items) }
+{
+    match kept_ring(profile, ring) {
+        KeptPolygon::Box(corners) => put_rectangle_key(
+            layer,
+            datatype,
+            corners.high.x.abs_diff(corners.low.x),
+            corners.high.y.abs_diff(corners.low.y),
+            corners.low.x,
+            corners.low.y,
+            key,
+        ),
+        KeptPolygon::Ring(reading) => put_polygon_key(layer, datatype, ring, reading, key),
+    }
 }

@@ -11,7 +11,7 @@
 //! - It knows its weight with all names (`Weighed` of oas_reader), so that crate's `accept_cells` judges such cells at END.
 //! - [`CompactCell::into_run`] places what waits by the names of the whole file, and returns the run of the keys of all
 //!   elements, all of which are sound: of each kept form there are as many as there are elements (`MeansElements`,
-//!   specs/Placing.antt).
+//!   specs/Placing.antt). The [`Ranks`] of these names ([`ranks_for`]) make it faster, and change nothing of that.
 //! - An [`ElementStore`] takes elements in any order, and becomes the run of the keys of their kept forms.
 //! - A type ([`KeptBy`]) says by which profile elements are kept: [`ByProfileOne`], [`ByProfileTwo`].
 //!
@@ -37,6 +37,11 @@
 //! - src/placing.rt places what waits among the elements, with no element and no copy of a name in between: the key is put
 //!   from the name that the table lends for the number. So a cell becomes one run (`CompactCell::into_run`):
 //!   proofs/PlaceLemmas.antt, again one equation of sums (`means`).
+//! - Much that waits is first put into the order of its keys, so that these come to the store as one rising run, which it
+//!   needn't sort. src/ranking.rt says where each name stands among all, and so where something belongs (`Short::place`).
+//!   src/spreading.rt spreads what waits over parts, and src/sorting.rt sorts one part after another, so that little of it is
+//!   held twice. Of the order nothing is proved, only that the same waits (`SameWaiting`, specs/Compact.antt;
+//!   proofs/SortLemmas.antt).
 #![tactic(auto)]
 
 mod cells;
@@ -45,12 +50,16 @@ mod elements;
 mod filling;
 mod placing;
 mod profiles;
+mod ranking;
 mod short;
+mod sorting;
+mod spreading;
 mod waiting;
 mod weighing;
 
 // The crates below, for those above.
-pub use cells::CompactCell;
+pub use cells::{CompactCell, ranks_for};
 pub use elements::ElementStore;
-pub use oas_keys::{SpelledElement, SpelledPoints, read_key};
+pub use oas_keys::{SpelledElement, SpelledPoints, SpelledSteps, read_key};
 pub use profiles::{ByProfileOne, ByProfileTwo, KeptBy};
+pub use ranking::Ranks;

@@ -8,19 +8,22 @@ ghost use Rattle.oas_reader.specs.Finish.{IsFit};
 ghost use Rattle.oas_reader.specs.Meaning.{element_by};
 ghost use Rattle.oas_cells.specs.Compact.{AreKeys, Waits};
 ghost use Rattle.oas_cells.specs.Short.{drawn_once};
-ghost use Rattle.oas_cells.specs.Placing.{with_placed, placed, IsSoundBy, AreSoundBy};
+ghost use Rattle.oas_cells.specs.Placing.{with_placed, placed, IsSoundBy, AreSoundBy, Places};
 
 use crate::chunks::Chunk;
 use crate::elements::ElementStore;
+use crate::ranking::Ranks;
 use crate::short::Short;
+use crate::sorting::{MANY, in_order};
 use crate::waiting::{Queue, Waiting};
 use oas_elements::Profile;
 use oas_num::{Label, Name};
 use oas_reader::{Drawn, NameTable};
-use std::alloc::AllocError;
+use std::alloc::{AllocError, Global};
 use std::collections::BTreeMap;
 
 /// Places what was drawn this many times, if its number has a name, whose bytes go into the key directly.
+#[inline(always)]
 fn place_one(
     profile: Profile,
     kept: &mut ElementStore,
@@ -143,45 +146,74 @@ fn place_counted(
     Ok(())
 }
 
-/// Places what waits in chunks and in a map, where its numbers have names.
+/// Lets what is placed by ranks be a run of its own.
+fn begin_order(kept: &mut ElementStore, ranks: Option<&Ranks>) -> Result<(), AllocError>
+    ensures { kept.new ≡ kept.old }
+{
+    match ranks {
+        Some(_) => kept.settle(),
+        None => Ok(()),
+    }
+}
+
+/// Places what waits in chunks and in a map, where its numbers have names: by their ranks, what is in chunks is placed in the
+/// order of its keys.
 fn place_queue(
+    alloc: Global,
     profile: Profile,
     kept: &mut ElementStore,
     queue: Queue,
     names: &NameTable<Name>,
     strings: &NameTable<Label>,
+    ranks: Option<&Ranks>,
 ) -> Result<(), AllocError>
     requires waits { AllByRecursion Waits queue }
     requires room { total (λ _. 1) kept.old + total (λ _. 1) queue < 2 ^ 64 }
     requires keys { AreKeys profile kept.old }
-    ensures placed { OnOk result (kept.new ≡ placed profile names.now.named strings.now.named queue kept.old) }
+    ensures placed { OnOk result (Places profile names.now.named strings.now.named queue kept.old kept.new) }
     ensures keys { OnOk result (AreKeys profile kept.new) }
     ensures sound { OnOk result (AreSoundBy names.now.named strings.now.named queue) }
 {
     let Queue { chunks, others } = queue;
-    let row = chunks.into_row()?;
+    let came = chunks.into_row()?;
+    let row = in_order(alloc, came, ranks)?;
+    begin_order(kept, ranks)?;
     place_chunks(profile, kept, row, names, strings)?;
     place_counted(profile, kept, others, names, strings)?;
     Ok(())
 }
 
-/// Places all that waits, where its numbers have names.
+/// The ranks, where so much waits that it is worth to be sorted.
+fn worth(ranks: Option<&Ranks>, count: usize) -> Option<&Ranks> {
+    if count < MANY {
+        return None;
+    }
+    ranks
+}
+
+/// Places all that waits, where its numbers have names; much of it by their ranks in the order of its keys.
 pub(crate) fn place_all(
     profile: Profile,
     kept: &mut ElementStore,
     waiting: Waiting,
     names: &NameTable<Name>,
     strings: &NameTable<Label>,
+    ranks: Option<&Ranks>,
 ) -> Result<(), AllocError>
     requires waits { AllByRecursion Waits waiting }
     requires room { total (λ _. 1) kept.old + total (λ _. 1) waiting < 2 ^ 64 }
     requires keys { AreKeys profile kept.old }
-    ensures placed { OnOk result (kept.new ≡ placed profile names.now.named strings.now.named waiting kept.old) }
+    ensures placed { OnOk result (Places profile names.now.named strings.now.named waiting kept.old kept.new) }
     ensures keys { OnOk result (AreKeys profile kept.new) }
     ensures sound { OnOk result (AreSoundBy names.now.named strings.now.named waiting) }
 {
-    match waiting.queue {
-        Some(queue) => place_queue(profile, kept, Box::into_inner(queue), names, strings),
+    let ranks = worth(ranks, waiting.count());
+    let Waiting { alloc, queue } = waiting;
+    match queue {
+        Some(queue) => {
+            let queue = Box::into_inner(queue);
+            place_queue(alloc, profile, kept, queue, names, strings, ranks)
+        }
         None => Ok(()),
     }
 }

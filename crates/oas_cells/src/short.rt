@@ -3,6 +3,7 @@
 ghost use Rattle.std.specs.Prelude.{◌≡◌, IfSome};
 ghost use Rattle.oas_cells.specs.Short.{drawn_as, drawn_of};
 
+use crate::ranking::Ranks;
 use oas_elements::Turns;
 use oas_reader::Drawn;
 
@@ -95,6 +96,60 @@ impl Short {
                 x,
                 y,
             },
+        }
+    }
+}
+
+/// Where something belongs among all that waits, in the order of keys: its name first, and then its other fields.
+#[derive(Clone, Copy, PartialEq, Eq, PartialOrd, Ord)]
+pub(crate) struct Place(u128);
+
+impl Place {
+    /// The rank of its name and the first of its other fields.
+    #[inline(always)]
+    pub(crate) fn front(self) -> u64 {
+        (self.0 >> 64) as u64
+    }
+}
+
+/// A coordinate from 0 on.
+#[inline(always)]
+fn from_zero(z: i32) -> u128 {
+    u128::from(z.abs_diff(i32::MIN))
+}
+
+/// A placement's turns and flip as a number.
+#[inline(always)]
+fn turned(turns: Turns, flip: bool) -> u128 {
+    let quarters = match turns {
+        Turns::T0 => 0,
+        Turns::T1 => 1,
+        Turns::T2 => 2,
+        Turns::T3 => 3,
+    };
+    quarters * 2 + u128::from(flip)
+}
+
+impl Short {
+    /// Where it belongs, by the ranks of names.
+    #[inline(always)]
+    pub(crate) fn place(self, ranks: &Ranks) -> Place {
+        let x = from_zero(self.x);
+        let y = from_zero(self.y);
+        match self.kind {
+            Kind::Placement { turns, flip } => {
+                let rank = u128::from(ranks.of_cell(self.number));
+                Place((rank << 88) | (x << 56) | (y << 24) | turned(turns, flip))
+            }
+            Kind::Text {
+                texttype,
+                textlayer,
+            } => {
+                let rank = u128::from(ranks.of_string(self.number));
+                let layer = u128::from(textlayer);
+                let texttype = u128::from(texttype);
+                Place((rank << 88) | (layer << 72) | (texttype << 64) | (x << 32) | y)
+            }
         }
     }
 }

@@ -20,7 +20,7 @@ use std::marker::Model;
 /// pointer.
 #[derive(Drop)]
 pub(crate) struct Waiting {
-    alloc: Global,
+    pub(crate) alloc: Global,
     pub(crate) queue: Option<Box<Queue>>,
 }
 
@@ -47,6 +47,14 @@ impl Waiting {
         ensures { IsTrue result → self.now ≡ [] }
     {
         self.queue.is_none()
+    }
+
+    /// How much waits in few bytes, about.
+    pub(crate) fn count(&self) -> usize {
+        match &self.queue {
+            Some(queue) => queue.chunks.count(),
+            None => 0,
+        }
     }
 
     /// The bytes of the names of all that waits, capped to 64 bits; None where a number has no name.
