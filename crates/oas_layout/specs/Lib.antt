@@ -1,4 +1,6 @@
 pub use Rattle.oas_cells.specs.Compact
+pub use Rattle.oas_cells.specs.SpelledSteps
+pub use Rattle.oas_cells.specs.Steps
 pub use Rattle.oas_form.specs.Acceptance
 pub use Rattle.oas_form.specs.Bytes
 pub use Rattle.oas_form.specs.Canonical

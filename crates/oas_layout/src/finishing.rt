@@ -14,7 +14,7 @@ ghost use Rattle.oas_layout.specs.LayoutOf.{IsLayoutOf};
 
 use crate::layout::Layout;
 use crate::sorting::sort_by_name;
-use oas_cells::{CompactCell, KeptBy};
+use oas_cells::{CompactCell, KeptBy, Ranks, ranks_for};
 use oas_elements::unit_fits;
 use oas_form::{CellStore, NameTable, Reader, Taken, accept_cells, cell_meant};
 use oas_num::{Label, Name, Refusal, Why};
@@ -27,6 +27,7 @@ fn put_run<P: KeptBy>(
     cell: CompactCell<P>,
     names: &NameTable<Name>,
     strings: &NameTable<Label>,
+    ranks: Option<&Ranks>,
     runs: &mut Vec<(Name, Run)>,
 ) -> Result<(), Why>
     requires { IsCompact P.profile cell }
@@ -41,7 +42,7 @@ fn put_run<P: KeptBy>(
     };
     // The proof takes from this call that the bytes are a name's.
     let _bytes = name.as_bytes();
-    let run = cell.into_run(names, strings)?;
+    let run = cell.into_run(names, strings, ranks)?;
     runs.push((name, run))?;
     Ok(())
 }
@@ -70,10 +71,11 @@ fn runs_of<P: KeptBy>(
     ensures ok { IfOk result (λ runs. AreRuns P.profile names.now.named strings.now.named cells.items runs.items) }
     ensures err { IfErr result (λ why. why ≡ Memory) }
 {
+    let ranks = ranks_for(alloc, &cells, names, strings)?;
     let mut runs = Vec::with_capacity(alloc, cells.len())?;
     let mut left = cells;
     while let Some(cell) = left.pop() {
-        put_run(alloc, cell, names, strings, &mut runs)?;
+        put_run(alloc, cell, names, strings, ranks.as_ref(), &mut runs)?;
         fit(&mut left);
     }
     Ok(runs)
@@ -92,7 +94,7 @@ fn runs_by_name<P: KeptBy>(
     ensures err { IfErr result (λ why. why ≡ Memory) }
 {
     let mut runs = runs_of(alloc, cells, names, strings)?;
-    sort_by_name(&mut runs);
+    sort_by_name(alloc, &mut runs);
     Ok(runs)
 }
 

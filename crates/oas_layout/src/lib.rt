@@ -7,9 +7,10 @@
 //!   elements' keys, ascending, each beside its count. Contracts see it as its `Contents` (oas_elements, specs/Contents.antt), and
 //!   every layout `IsLayout`.
 //! - [`Cells`], [`Elements`] and [`KeyedElement`] are its cells and elements, one by one. An element is a key that is seen
-//!   as its element: it is compared by its bytes, and [`show`] gives its fields, of which a name, a string or points are those of the
-//!   key ([`ShownElement`], [`ShownPoints`]). Nothing is copied, but by [`KeyedElement::to_element`]. Whatever a caller has taken of
-//!   [`Elements`], those left are sound and weigh no more than a layout may ([`Elements::fits`]).
+//!   as its element: it is compared by its bytes, and [`show`] gives its fields, of which a name, a string or points are those of
+//!   the key ([`ShownElement`], [`ShownPoints`]), or the steps between them ([`SpelledSteps`]). Nothing is copied, except by
+//!   [`KeyedElement::to_element`]. Whatever a caller has taken of [`Elements`], those left are sound and weigh no more than a layout
+//!   may ([`Elements::fits`]).
 //! - [`Layout::count`] and [`Layout::weight`] go through all distinct elements; [`Layout::same`] compares bytes alone.
 //! - [`read_layout`] gives the layout of what a source gives, or says where and why it is refused (`ReadsLayout` of oas_file).
 //! - [`finish_layout`] is its last step, for a caller that does more with each record: from a reader to the layout of the records that
@@ -23,9 +24,13 @@
 //!
 //! - src/reading.rt is a reader with the stores of oas_cells. src/finishing.rt takes what that reader hands over, has it accepted, and
 //!   makes the run of each cell, from the last cell on, so that a cell's store is freed before the next run is made.
-//!   The room of the freed cells is given back each time when it is a sixteenth of all (`fit`).
-//! - src/sorting.rt: a layout has its runs in a list, which is sorted by their names once, in place, after all are made. Where no two names
-//!   are equal there is one such list (`sorted_is`, proofs/SortLemmas.antt), so it is that in which each cell was put in its place.
+//!   The room of the freed cells is given back each time when it is a sixteenth of all (`fit`). Where much waits for names, these
+//!   are ranked first, once for all cells (`ranks_for` of oas_cells).
+//! - src/sorting.rt: a layout has its runs in a list, which is sorted by their names once, in place, after all are made. Where
+//!   there are many, a list of their places is sorted first, each beside the eight bytes of its name behind what all names begin
+//!   with, and the runs are exchanged until they stand so: then the sort that is proved goes through them once. Where no two
+//!   names are equal there is one such list (`sorted_is`, proofs/SortLemmas.antt), so it is that in which each cell was put in its
+//!   place.
 //! - specs/Held.antt: keys are of one list of elements at most (specs/Laws/HeldLaws.antt), and what is left of a key has one list
 //!   of points at most (PointsLaws.antt). So a type that holds keys has a ghost field with that list, which is nothing at run
 //!   time, and is seen as it; proofs/HeldLemmas.antt has what is taken of both.
@@ -68,11 +73,11 @@ pub use element::KeyedElement;
 pub use elements::Elements;
 pub use finishing::finish_layout;
 pub use layout::Layout;
-pub use oas_cells::{ByProfileOne, ByProfileTwo, CompactCell, KeptBy};
+pub use oas_cells::{ByProfileOne, ByProfileTwo, CompactCell, KeptBy, SpelledSteps};
 pub use oas_form::{
     CellStore, Comparer, CountedCell, FormJudge, Reader, Room, file_laws, find_end_of_input,
     find_record, is_end, is_head, laws as form_laws, put_bytes, put_circle, put_coordinate,
-    put_end, put_head, put_number, put_opening, put_place, put_placement, put_rectangle, put_step,
+    put_delta, put_end, put_head, put_number, put_opening, put_place, put_placement, put_rectangle,
     put_text, take_record,
 };
 pub use points::ShownPoints;

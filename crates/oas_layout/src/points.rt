@@ -5,10 +5,11 @@ ghost use Rattle.std.specs.Iterator.{at_most};
 ghost use Rattle.std.specs.Map.Iter.{TakesFirst};
 ghost use Rattle.oas_ring.specs.declared.point.Point.{Point as OnePoint};
 ghost use Rattle.oas_cells.specs.Reading.{HasPoints};
+ghost use Rattle.oas_cells.specs.Steps.{BeginsSteps};
 ghost use Rattle.oas_layout.specs.Held.{HeldPoints};
 ghost use Rattle.oas_layout.specs.Laws.PointsLaws.{points_prop};
 
-use oas_cells::SpelledPoints;
+use oas_cells::{SpelledPoints, SpelledSteps};
 use oas_ring::Point;
 use std::marker::Model;
 
@@ -36,6 +37,13 @@ impl<'a> ShownPoints<'a> {
         ensures { (ps : List OnePoint) → HasPoints points.entry ps → result ≡ ps }
     {
         ShownPoints { points }
+    }
+
+    /// Takes the first point, where one is left, and returns it with the steps to those after it, as the key spells them.
+    pub fn first_and_steps(self) -> Option<(Point, SpelledSteps<'a>)>
+        ensures { BeginsSteps result self.entry }
+    {
+        self.points.first_and_steps()
     }
 
     /// How many points are left.

@@ -37,7 +37,7 @@ fn close_by_name(
     ensures { IfOk result (λ runs. AreByName cells.entries runs.items) }
 {
     let mut runs = close_all(alloc, cells)?;
-    sort_by_name(&mut runs);
+    sort_by_name(alloc, &mut runs);
     Ok(runs)
 }
 
