@@ -21,9 +21,11 @@ pub use Rattle.oas_layout.specs.Reasons
 pub use Rattle.oas_layout.specs.Records
 pub use Rattle.oas_layout.specs.Series
 pub use Rattle.oas_layout.specs.Shown
+pub use Rattle.oas_layout.specs.SpelledSteps
 pub use Rattle.oas_layout.specs.Spelling
 pub use Rattle.oas_layout.specs.Standing
 pub use Rattle.oas_layout.specs.Stands
+pub use Rattle.oas_layout.specs.Steps
 pub use Rattle.oas_layout.specs.Stores
 pub use Rattle.oas_layout.specs.Turns
 pub use Rattle.oas_layout.specs.Values

@@ -59,8 +59,9 @@ pub use elements::put_element;
 pub use oas_layout::{
     ByProfileOne, ByProfileTwo, CellStore, Cells, CompactCell, Comparer, CountedCell, Draft,
     Elements, FormJudge, KeptBy, KeyedElement, Layout, Reader, Refused, Room, ShownElement,
-    ShownPoints, file_laws, find_end_of_input, find_record, finish_layout, form_laws, is_end,
-    is_head, put_bytes, put_circle, put_coordinate, put_end, put_head, put_number, put_opening,
-    put_place, put_placement, put_rectangle, put_step, put_text, read_layout, show, take_record,
+    ShownPoints, SpelledSteps, file_laws, find_end_of_input, find_record, finish_layout, form_laws,
+    is_end, is_head, put_bytes, put_circle, put_coordinate, put_delta, put_end, put_head,
+    put_number, put_opening, put_place, put_placement, put_rectangle, put_text, read_layout, show,
+    take_record,
 };
 pub use writing::{put_listing, write_listing};

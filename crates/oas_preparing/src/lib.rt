@@ -37,10 +37,10 @@
 //! - src/judged.rt: the read that judges. A canonical file is prepared to itself, with nothing left out (`own_taken` of
 //!   oas_prepare, proofs/ProfileFiles.antt; proofs/JudgedLemmas.antt).
 //! - src/kinds.rt: the kinds in words. src/runs.rt: the run that writes the canonical file. src/ends.rt: how each run ends.
-//! - src/keys.rt: a layout that was read is keyed as it is (`layout_key` of oas_canon). That this is the key of the file that
-//!   `prepare` writes follows from what oas_prepare proves of its own writing (`taken` of its proofs/Whole.antt). A run that
-//!   answers has two results: what was found, and the answer, which is the same where its text was written
-//!   (proofs/AnswerLemmas.antt).
+//! - src/keys.rt: what was read, a layout or the bytes of a canonical file, is keyed as it is (`given_key` of oas_canon). That
+//!   this is the key of the file that `prepare` writes follows from what oas_prepare proves of its own writing (`taken` of its
+//!   proofs/Whole.antt). A run that answers has two results: what was found, and the answer, which is the same where its text
+//!   was written (proofs/AnswerLemmas.antt).
 //! - src/sameness.rt: two layouts that were read are compared as they are (`Layout::same`). That their canonical files are
 //!   equal exactly if they are the same is proved in oas_prepare (proofs/Sameness.antt).
 //! - src/checks.rt: the bytes of a file are compared with the canonical ones of the layout that it was read to, as these are

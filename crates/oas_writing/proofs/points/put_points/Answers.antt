@@ -11,49 +11,56 @@ use Rattle.oas_writing.proofs.points.put_points.Goals as goal
 
 pub returns-in_default-clause-counts : goal.returns-in_default-clause-counts
 returns-in_default-clause-counts g c =
-    let no : 0 < 0 = omega (arith, c.requires.some, ap length c.in_default.ensures.steps.0) in
+    let no : 0 < 0 = omega (arith, c.requires.some, ap length c.in_default.ensures) in
     absurd (omega (arith, no))
 
-pub put_list-requires-clause-few : goal.put_list-requires-clause-few
-put_list-requires-clause-few g c =
-    let f = firsts c.args.points c.next.new.self c.in-Some.first c.in-Some.ensures.steps c.requires.inside in
-    omega (arith, f.fewer, c.requires.few)
-
-pub put_list-requires-clause-first : goal.put_list-requires-clause-first
-put_list-requires-clause-first g c = (firsts c.args.points c.next.new.self c.in-Some.first c.in-Some.ensures.steps c.requires.inside).first
-
-pub put_list-requires-clause-inside : goal.put_list-requires-clause-inside
-put_list-requires-clause-inside g c = (firsts c.args.points c.next.new.self c.in-Some.first c.in-Some.ensures.steps c.requires.inside).others
+pub put_list-requires : goal.put_list-requires
+put_list-requires g c =
+    let begun = c.in-Some.ensures in
+    let f = firsts c.args.points begun.0 c.in-Some.first begun.1 c.requires.inside in
+    (c.in-Some.first, begun.0, begun.2, omega (arith, f.fewer, c.requires.few))
 
 pub put_place-requires-clause-x : goal.put_place-requires-clause-x
 put_place-requires-clause-x g c =
-    let inside = (firsts c.args.points c.next.new.self c.in-Some.first c.in-Some.ensures.steps c.requires.inside).first in
+    let begun = c.in-Some.ensures in
+    let inside = (firsts c.args.points begun.0 c.in-Some.first begun.1 c.requires.inside).first in
     subst (λ (z : ℤ). is_coordinate z ≡ true) (sym (to_z-of_z w64 c.in-Some.first.x (x_fits c.in-Some.first inside))) (and_parts (is_coordinate c.in-Some.first.x) (is_coordinate c.in-Some.first.y) inside).0
 
 pub put_place-requires-clause-y : goal.put_place-requires-clause-y
 put_place-requires-clause-y g c =
-    let inside = (firsts c.args.points c.next.new.self c.in-Some.first c.in-Some.ensures.steps c.requires.inside).first in
+    let begun = c.in-Some.ensures in
+    let inside = (firsts c.args.points begun.0 c.in-Some.first begun.1 c.requires.inside).first in
     subst (λ (z : ℤ). is_coordinate z ≡ true) (sym (to_z-of_z w64 c.in-Some.first.y (y_fits c.in-Some.first inside))) (and_parts (is_coordinate c.in-Some.first.x) (is_coordinate c.in-Some.first.y) inside).1
 
 pub returns-in_err-list-clause-counts : goal.returns-in_err-list-clause-counts
 returns-in_err-list-clause-counts g c =
     let p = err_from_is_err_and c.from_residual.result c.from_residual.ensures.1 in
-    rw (p.1, c.in-Some.ensures.steps) (first_fails _ c.in_err-list.ensures.counts)
+    let begun = c.in-Some.ensures in
+    rw (p.1, begun.1) (first_fails _ (c.in_err-list.ensures.counts c.in-Some.first begun.0 begun.2))
 
 pub returns-in_err-place-clause-counts : goal.returns-in_err-place-clause-counts
 returns-in_err-place-clause-counts g c =
     let p = err_from_is_err_and c.from_residual-in_err-place.result c.from_residual-in_err-place.ensures.1 in
-    let inside = (firsts c.args.points c.next.new.self c.in-Some.first c.in-Some.ensures.steps c.requires.inside).first in
-    rw (p.1, c.in-Some.ensures.steps) (last_fails (first _ c.in_ok-list.ensures.counts)
+    let begun = c.in-Some.ensures in
+    let inside = (firsts c.args.points begun.0 c.in-Some.first begun.1 c.requires.inside).first in
+    rw (p.1, begun.1) (last_fails (first _ (c.in_ok-list.ensures.counts c.in-Some.first begun.0 begun.2))
     (simp (to_z-of_z w64 c.in-Some.first.x (x_fits c.in-Some.first inside), to_z-of_z w64 c.in-Some.first.y (y_fits c.in-Some.first inside)) at c.in_err-place.ensures.counts))
 
 pub returns-clause-counts : goal.returns-clause-counts
 returns-clause-counts g c =
-    let inside = (firsts c.args.points c.next.new.self c.in-Some.first c.in-Some.ensures.steps c.requires.inside).first in
-    rw c.in-Some.ensures.steps (ends (first _ c.in_ok-list.ensures.counts)
+    let begun = c.in-Some.ensures in
+    let inside = (firsts c.args.points begun.0 c.in-Some.first begun.1 c.requires.inside).first in
+    rw begun.1 (ends (first _ (c.in_ok-list.ensures.counts c.in-Some.first begun.0 begun.2))
     (simp (to_z-of_z w64 c.in-Some.first.x (x_fits c.in-Some.first inside), to_z-of_z w64 c.in-Some.first.y (y_fits c.in-Some.first inside)) at c.in_ok-place.ensures.counts))
 
 pub returns-clause-short : goal.returns-clause-short
 returns-clause-short g c =
-    let f = firsts c.args.points c.next.new.self c.in-Some.first c.in-Some.ensures.steps c.requires.inside in
-    omega (arith, f.fewer, c.in_ok-list.ensures.short, c.in_ok-place.ensures.short)
+    let begun = c.in-Some.ensures in
+    let f = firsts c.args.points begun.0 c.in-Some.first begun.1 c.requires.inside in
+    omega (arith, f.fewer, c.in_ok-list.ensures.short c.in-Some.first begun.0 begun.2, c.in_ok-place.ensures.short)
+
+pub overflow_add-result : goal.overflow_add-result
+overflow_add-result g c =
+    let begun = c.in-Some.ensures in
+    let f = firsts c.args.points begun.0 c.in-Some.first begun.1 c.requires.inside in
+    omega (arith, f.fewer, c.requires.few, c.in_ok-list.ensures.short c.in-Some.first begun.0 begun.2, c.in_ok-place.ensures.short)
