@@ -35,6 +35,17 @@ fn label(alloc: Global, text: &str) -> Result<Label, Why> {
     Label::new(alloc, text.as_bytes())
 }
 
+/// A string: a word, or a letter and how many of it, as in `a*600`.
+fn string(alloc: Global, word: &str) -> Result<Label, Why> {
+    match word.split_once("*") {
+        Some((letter, times)) => {
+            let letters = letter.repeat(alloc, times.parse().unwrap_or(0))?;
+            label(alloc, &letters)
+        }
+        None => label(alloc, word),
+    }
+}
+
 fn placement(alloc: Global, words: &mut Words<'_>) -> Result<Element, Why> {
     let cell = name(alloc, words.text())?;
     let x = words.signed();
@@ -61,7 +72,7 @@ fn text(alloc: Global, words: &mut Words<'_>) -> Result<Element, Why> {
     let x = words.signed();
     let y = words.signed();
     Ok(Element::Text {
-        string: label(alloc, words.text())?,
+        string: string(alloc, words.text())?,
         textlayer,
         texttype,
         x,

@@ -77,7 +77,8 @@ fn insist_on_element(
     false
 }
 
-/// Elements in an order that isn't theirs, among them a polygon that is kept in another reading.
+/// Elements in an order that isn't theirs, among them a polygon that is kept in another reading. They are added from the last
+/// on: one with a short key, and two with keys so long that there is no room for them in what the first was given.
 const LINES: &str = "circle 1 0 1 0 0
 circle 1 0 2 0 0
 circle 1 0 3 0 0
@@ -102,32 +103,36 @@ rectangle 1 0 10 20 0 0
 polygon 1 0 10,20 10,0 5,5 0,0 0,20
 polygon 1 0 0,0 10,0 10,20 0,20
 rectangle 1 0 10 20 0 0
+text 3 0 0 0 b*600
+text 3 0 0 0 a*600
 text 3 0 0 0 Hi";
 
 /// What the cell then holds, in its order.
 const HELD: &str = "1 text 3 0 0 0 Hi
-10 rectangle 1 0 10 20 0 0
-4 polygon 1 0 0,0 0,20 10,20 10,0 5,5
-25 circle 1 0 1 0 0
-24 circle 1 0 2 0 0
-23 circle 1 0 3 0 0
-22 circle 1 0 4 0 0
-21 circle 1 0 5 0 0
-20 circle 1 0 6 0 0
-19 circle 1 0 7 0 0
-18 circle 1 0 8 0 0
-17 circle 1 0 9 0 0
-16 circle 1 0 10 0 0
-15 circle 1 0 11 0 0
-14 circle 1 0 12 0 0
-13 circle 1 0 13 0 0
-12 circle 1 0 14 0 0
-11 circle 1 0 15 0 0
-10 circle 1 0 16 0 0
-9 circle 1 0 17 0 0
-8 circle 1 0 18 0 0
-7 circle 1 0 19 0 0
-6 circle 1 0 20 0 0";
+2 text 3 0 0 0 a*600
+3 text 3 0 0 0 b*600
+16 rectangle 1 0 10 20 0 0
+6 polygon 1 0 0,0 0,20 10,20 10,0 5,5
+27 circle 1 0 1 0 0
+26 circle 1 0 2 0 0
+25 circle 1 0 3 0 0
+24 circle 1 0 4 0 0
+23 circle 1 0 5 0 0
+22 circle 1 0 6 0 0
+21 circle 1 0 7 0 0
+20 circle 1 0 8 0 0
+19 circle 1 0 9 0 0
+18 circle 1 0 10 0 0
+17 circle 1 0 11 0 0
+16 circle 1 0 12 0 0
+15 circle 1 0 13 0 0
+14 circle 1 0 14 0 0
+13 circle 1 0 15 0 0
+12 circle 1 0 16 0 0
+11 circle 1 0 17 0 0
+10 circle 1 0 18 0 0
+9 circle 1 0 19 0 0
+8 circle 1 0 20 0 0";
 
 /// Each element twice: one to be added, and one that a failure hands back.
 fn elements(alloc: Global) -> Result<Vec<(Element, Element)>, Why> {
@@ -168,8 +173,8 @@ fn insist_on_elements(
 }
 
 /// A draft of the names' cells, the first of them with the elements; whether all are added; and whether, where the heap was
-/// full, enough failed at first: the draft, a cell for which the draft had no room, the cell's first element, the polygon that is
-/// kept in another reading, and an element for which its store had no room.
+/// full, enough failed at first: the draft, a cell for which the draft had no room, the cell's first element, one with a longer key
+/// than memory was reserved for, and one for which its store had no room.
 fn insist_on_all(
     unit: Fraction,
     names: &mut Vec<Name>,
@@ -212,5 +217,5 @@ fn filled_in_want(alloc: Global) -> Result<([bool; 2], (usize, u64), bool), Why>
 
 #[test]
 fn drafts_without_memory(rt: HostRuntime) {
-    assert!(rt; filled_in_want(rt.alloc()) == Ok(([true, true], (12, 325), true)));
+    assert!(rt; filled_in_want(rt.alloc()) == Ok(([true, true], (12, 378), true)));
 }

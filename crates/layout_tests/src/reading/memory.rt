@@ -1,7 +1,8 @@
 //! Allocations that fail: a failed call returns out of memory, at the place that it was given.
 //!
 //! The heap is filled up, and given back a small piece after each run. So the name and the second cell, with which the first
-//! one goes into a list, each fail before they succeed, and so does the finish of a reader that has taken its records before.
+//! one goes into a list, each fail before they succeed, and so does the finish of a reader that has taken its records before. The
+//! first cell is empty: the memory in which a cell was filled is given back with it, and would be enough for the list.
 //! Where the heap cannot be filled, as under an address checker, no call fails, and the results are the same.
 
 use super::{KeepingOne, Refused, is_met, refuses_on, unit};
@@ -43,10 +44,9 @@ const NO_NAME: Refusal = Refusal {
     why: Why::Memory,
 };
 
-/// Gives the reader two cells, each with a rectangle, the second named by the last of the names.
+/// Gives the reader an empty cell and one with a rectangle, which is named by the last of the names.
 fn take_cells(reader: &mut KeepingOne, names: &mut Vec<Name>) -> Result<(), Refusal> {
     reader.take(3, Record::Cell(CellRef::Number(0)))?;
-    reader.take(5, rectangle())?;
     let name = names.pop().ok_or(NO_NAME)?;
     reader.take(13, Record::Cell(CellRef::Name(name)))?;
     reader.take(16, rectangle())
@@ -67,9 +67,9 @@ fn is_kept(reader: &mut KeepingOne, names: &mut Vec<Name>) -> bool {
     }
 }
 
-/// Whether the layout is of two cells with a rectangle each.
+/// Whether the layout is of two cells with a rectangle in all.
 fn is_right(layout: &Layout) -> bool {
-    layout.cell_count() == 2 && layout.count() == 2
+    layout.cell_count() == 2 && layout.count() == 1
 }
 
 /// Finishes the reader. Where it is refused, or else whether the layout is right.
