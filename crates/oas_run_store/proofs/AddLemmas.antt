@@ -12,7 +12,6 @@ use Rattle.oas_run_store.specs.Tally.{count_at, tally}
 use Rattle.oas_runs.specs.Laws.RunLaws.{total-append, AllAbove}
 use Rattle.oas_run_store.specs.Laws.TallyLaws.{count_at-tally, same_tally}
 use Rattle.oas_elements.specs.Bag.{put_more}
-use Rattle.oas_runs.proofs.MergeLemmas.{IsRun-recount}
 use Rattle.oas_runs.specs.Blocks.{joined}
 use Rattle.oas_run_store.specs.Parts.{contents, AreParts, AreRuns, CountsFit, IsBelow, EndsWith}
 use Rattle.oas_run_store.proofs.PartLemmas.{split_last, found_last, total_contents}
@@ -92,6 +91,23 @@ module _ {K : Type 0} where
   pub more_push : (es fs : List (K × ℕ)) (k : K) (n : ℕ) → fs ≡ es ++ (k, n) ∷ [] → More es fs k n
   more_push es fs k n e g = omega (arith, ap (total g) e, total-append g es ((k, n) ∷ []))
 
+  -- a count may grow
+  above-recount : (R : K → K → Ordering) (x : K) (os : List (K × ℕ)) (k : K) (n m : ℕ) (us : List (K × ℕ)) → AllAbove R x (os ++ (k, n) ∷ us) → AllAbove R x (os ++ (k, m) ∷ us)
+  above-recount R x [] k n m us h = h
+  above-recount R x (y ∷ ys) k n m us h = (h.0, above-recount R x ys k n m us h.1)
+
+  sorted-recount : (R : K → K → Ordering) (os : List (K × ℕ)) (k : K) (n m : ℕ) (us : List (K × ℕ)) → IsStrictlySortedBy R (keys_of (os ++ (k, n) ∷ us)) → IsStrictlySortedBy R (keys_of (os ++ (k, m) ∷ us))
+  unfolding IsStrictlySortedBy
+  sorted-recount R [] k n m us s = s
+  sorted-recount R (x ∷ xs) k n m us s = (above-recount R x.0 xs k n m us s.0, sorted-recount R xs k n m us s.1)
+
+  positive-recount : (os : List (K × ℕ)) (k : K) (n m : ℕ) (us : List (K × ℕ)) → 0 < m → Positive (os ++ (k, n) ∷ us) → Positive (os ++ (k, m) ∷ us)
+  positive-recount [] k n m us h s = (h, s.1)
+  positive-recount (x ∷ xs) k n m us h s = (s.0, positive-recount xs k n m us h s.1)
+
+  IsRun-recount : (R : K → K → Ordering) (os : List (K × ℕ)) (k : K) (n m : ℕ) (us : List (K × ℕ)) → 0 < m → IsRun R (os ++ (k, n) ∷ us) → IsRun R (os ++ (k, m) ∷ us)
+  IsRun-recount R os k n m us h s = record { ascending = sorted-recount R os k n m us s.ascending; positive = positive-recount os k n m us h s.positive }
+
   pub run_count : {R : K → K → Ordering} → IsTotalOrder R → (es fs : List (K × ℕ)) (k : K) (n : ℕ) → EndsWith R es k
       → ((ps : List (K × ℕ)) (p : K × ℕ) → es ≡ ps ++ p ∷ [] → fs ≡ ps ++ (p.0, p.1 + n) ∷ []) → 0 < n → IsRun R es → IsRun R fs
   run_count {R} o es fs k n w new h s = subst (IsRun R) (sym (new w.0 w.1 w.2)) (IsRun-recount R w.0 w.1.0 w.1.1 (w.1.1 + n) [] (omega (arith, h)) (subst (IsRun R) w.2 s))
@@ -113,6 +129,15 @@ module _ {K : Type 0} where
       let yes : is_eq (R k p.0) ≡ true = ap (λ x. is_eq (R k x)) key ∙ ap is_eq (tied_itself o k) in
       let one : p.1 * g p.0 ≡ p.1 = rw yes (omega arith) in
       omega (arith, room, total_contents g es l rs, ap (total g) e, total-append g ps (p ∷ []), one)
+
+  -- where nothing waits beside it
+  pub alone_room : (R : K → K → Ordering) (es : List (K × ℕ)) (k : K) (n : ℕ) → copies R k es + n < 2 ^ 64 → copies R k (contents es [] []) + n < 2 ^ 64
+  alone_room R es k n h = omega (arith, h, total_contents (λ x. cond (is_eq (R k x)) 1 0) es [] [])
+
+  -- in the rising run it has room too
+  pub rising_room : (R : K → K → Ordering) (r l : List (K × ℕ)) (rs : List (List (K × ℕ))) (k : K) (n : ℕ) → copies R k (contents r l rs) + n < 2 ^ 64
+      → copies R k r + n < 2 ^ 64
+  rising_room R r l rs k n h = omega (arith, h, total_contents (λ x. cond (is_eq (R k x)) 1 0) r l rs)
 
   -- ---- what waits loose
 

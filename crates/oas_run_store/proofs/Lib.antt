@@ -1,4 +1,5 @@
 pub mod AddLemmas
+pub mod JoinLemmas
 pub mod LooseLemmas
 pub mod PartLemmas
 pub mod StoreLemmas

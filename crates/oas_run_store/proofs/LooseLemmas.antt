@@ -67,12 +67,12 @@ in_order_same bytes all sorted whole p h g =
 module _ {K : Type 0} where
   -- how often the next may still come
   pub next_room : {R : K → K → Ordering} → IsTotalOrder R → (es : List (K × ℕ)) (rs : List (List (K × ℕ))) (k : K) (n : ℕ) → CountsFit R ((k, n) ∷ (es ++ joined rs))
-      → copies R k (contents es [] rs) + n < 2 ^ 64
+      → copies R k es + n < 2 ^ 64
   next_room {R} o es rs k n h =
       let g : K → ℕ = λ x. cond (is_eq (R k x)) 1 0 in
       let yes : is_eq (R k k) ≡ true = ap is_eq (tied_itself o k) in
       let one : n * cond (is_eq (R k k)) 1 0 ≡ n = rw yes (omega arith) in
-      omega (arith, h k, one, total_contents g es [] rs, total-append g es (joined rs))
+      omega (arith, h k, one, total-append g es (joined rs))
 
   pub next_same : (es fs : List (K × ℕ)) (rs : List (List (K × ℕ))) (k : K) (n : ℕ) → More es fs k n → SameTotals (fs ++ joined rs) ((k, n) ∷ (es ++ joined rs))
   next_same es fs rs k n h g = omega (arith, h g, total-append g es (joined rs), total-append g fs (joined rs))
@@ -113,9 +113,9 @@ module _ {K : Type 0} where
   same_fit R es fs h c k = omega (arith, h (λ x. cond (is_eq (R k x)) 1 0), c k)
 
   -- the loose ones are settled, and begin anew
-  pub loose_settled : (l l' : List (K × ℕ)) (olds mids news : List (List (K × ℕ))) → l' ≡ [] → SameTotals (joined mids) (l ++ joined olds)
-      → SameTotals (joined news) (joined mids) → SameTotals (l' ++ joined news) (l ++ joined olds)
-  loose_settled l l' olds mids news f h k g = omega (arith, h g, k g, ap (total g) f, total-append g l' (joined news))
+  pub loose_settled : (l l' : List (K × ℕ)) (olds news : List (List (K × ℕ))) → l' ≡ [] → SameTotals (joined news) (l ++ joined olds)
+      → SameTotals (l' ++ joined news) (l ++ joined olds)
+  loose_settled l l' olds news f h g = omega (arith, h g, ap (total g) f, total-append g l' (joined news))
 
   pub loose_fit : (R : K → K → Ordering) (r l : List (K × ℕ)) (rs : List (List (K × ℕ))) → CountsFit R (contents r l rs) → CountsFit R (l ++ joined rs)
   loose_fit R r l rs h k = omega (arith, h k, total_contents (λ x. cond (is_eq (R k x)) 1 0) r l rs, total-append (λ x. cond (is_eq (R k x)) 1 0) l (joined rs))

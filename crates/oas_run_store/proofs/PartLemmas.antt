@@ -1,13 +1,11 @@
 -- Lists of runs, and runs at their ends.
-use Rattle.std.proofs.Common.{◌≡◌, ℕ, ◌+◌, ◌-◌, ◌<◌, ◌^◌, List, [], ◌∷◌, ◌++◌, length, cond, get_or, refl, sym, ◌∙◌, ap, arith, subst, length-append, append_assoc, append-nil}
+use Rattle.std.proofs.Common.{◌≡◌, ℕ, ◌+◌, ◌-◌, List, [], ◌∷◌, ◌++◌, length, cond, get_or, refl, sym, ◌∙◌, ap, arith, subst, length-append, append_assoc, append-nil}
 use Rattle.std.proofs.Math.Seq.{get_or-append_seam}
 use Rattle.std.specs.Ordering.{is_eq}
 use Rattle.std.specs.List.Sorted.{IsStrictlySortedBy}
 use Rattle.std.specs.declared.cmp.Ordering.{Ordering}
 use Rattle.oas_runs.specs.Runs.{total, copies, IsRun, SameTotals}
 use Rattle.oas_runs.specs.Laws.RunLaws.{total-append}
-use Rattle.oas_runs.specs.Merging.{IsMerging}
-use Rattle.oas_runs.proofs.MergeLemmas.{ends}
 use Rattle.oas_runs.specs.Blocks.{joined}
 use Rattle.oas_run_store.specs.Parts.{contents, AreParts, AreRuns, CountsFit}
 
@@ -47,11 +45,6 @@ module _ {K : Type 0} where
   pub total_runs : (g : K → ℕ) (news rs : List (List (K × ℕ))) (r : List (K × ℕ)) → news ≡ rs ++ r ∷ [] → total g (joined news) ≡ total g (joined rs) + total g r
   total_runs g news rs r e = ap (λ (xs : List (List (K × ℕ))). total g (joined xs)) e ∙ total_more g rs r
 
-  -- two at the end fit
-  pub two_fit : (R : K → K → Ordering) (olds mids rs : List (List (K × ℕ))) (r s : List (K × ℕ)) → olds ≡ mids ++ s ∷ [] → mids ≡ rs ++ r ∷ []
-      → CountsFit R (joined olds) → (k : K) → copies R k r + copies R k s < 2 ^ 64
-  two_fit R olds mids rs r s e f h k = omega (arith, h k, total_runs (λ x. cond (is_eq (R k x)) 1 0) olds mids s e, total_runs (λ x. cond (is_eq (R k x)) 1 0) mids rs r f)
-
   pub fit_same : (R : K → K → Ordering) (es fs : List (K × ℕ)) → SameTotals fs es → CountsFit R es → CountsFit R fs
   fit_same R es fs h c k = omega (arith, h (λ x. cond (is_eq (R k x)) 1 0), c k)
 
@@ -63,45 +56,10 @@ module _ {K : Type 0} where
   unfolding IsStrictlySortedBy
   IsRun-empty R es e = subst (IsRun R) (sym e) (record { ascending = tt; positive = tt })
 
-  -- ---- the last two runs, merged or partly merged
-
-  -- t is all that r and s were
-  pub whole_same : (R : K → K → Ordering) (olds mids rs news : List (List (K × ℕ))) (r s t u v w : List (K × ℕ)) → olds ≡ mids ++ s ∷ [] → mids ≡ rs ++ r ∷ []
-      → news ≡ rs ++ t ∷ [] → t ≡ u → v ≡ [] → w ≡ [] → IsMerging R u v w (r ++ s) → SameTotals (joined news) (joined olds)
-  whole_same R olds mids rs news r s t u v w e f n a b c m g =
-      let all = ends R u v w (r ++ s) m in
-      omega (arith, all.same g, ap (total g) a, ap (total g) b, ap (total g) c, total-append g r s, total_runs g olds mids s e, total_runs g mids rs r f, total_runs g news rs t n)
-
-  pub whole_runs : (R : K → K → Ordering) (olds mids rs news : List (List (K × ℕ))) (r s t u v w : List (K × ℕ)) → olds ≡ mids ++ s ∷ [] → mids ≡ rs ++ r ∷ []
-      → news ≡ rs ++ t ∷ [] → t ≡ u → IsMerging R u v w (r ++ s) → AreRuns R olds → AreRuns R news
-  whole_runs R olds mids rs news r s t u v w e f n a m h =
-      let all = ends R u v w (r ++ s) m in
-      let before = (split_runs R mids rs r f (split_runs R olds mids s e h).0).0 in
-      more_runs R news rs t n before (subst (IsRun R) (sym a) all.done)
-
-  -- t is a part, and v and w are left
-  pub part_same : (R : K → K → Ordering) (olds mids rs one two three : List (List (K × ℕ))) (r s t u v w : List (K × ℕ)) → olds ≡ mids ++ s ∷ []
-      → mids ≡ rs ++ r ∷ [] → one ≡ rs ++ t ∷ [] → two ≡ one ++ v ∷ [] → three ≡ two ++ w ∷ [] → t ≡ u → IsMerging R u v w (r ++ s) → SameTotals (joined three) (joined olds)
-  part_same R olds mids rs one two three r s t u v w e f x y z a m g =
-      let all = ends R u v w (r ++ s) m in
-      omega (arith, all.same g, ap (total g) a, total-append g r s, total_runs g olds mids s e, total_runs g mids rs r f, total_runs g one rs t x, total_runs g two one v y, total_runs g three two w z)
-
-  pub part_runs : (R : K → K → Ordering) (olds mids rs one two three : List (List (K × ℕ))) (r s t u v w : List (K × ℕ)) → olds ≡ mids ++ s ∷ []
-      → mids ≡ rs ++ r ∷ [] → one ≡ rs ++ t ∷ [] → two ≡ one ++ v ∷ [] → three ≡ two ++ w ∷ [] → t ≡ u → IsMerging R u v w (r ++ s) → AreRuns R olds → AreRuns R three
-  part_runs R olds mids rs one two three r s t u v w e f x y z a m h =
-      let all = ends R u v w (r ++ s) m in
-      let before = (split_runs R mids rs r f (split_runs R olds mids s e h).0).0 in
-      more_runs R three two w z (more_runs R two one v y (more_runs R one rs t x before (subst (IsRun R) (sym a) all.done)) all.left) all.right
-
   -- ---- one more run
 
-  pub added_same : (g : K → ℕ) (olds mids news : List (List (K × ℕ))) (run : List (K × ℕ)) → mids ≡ olds ++ run ∷ [] → SameTotals (joined news) (joined mids)
-      → total g (joined news) ≡ total g (run ++ joined olds)
-  added_same g olds mids news run e h = omega (arith, h g, total_runs g mids olds run e, total-append g run (joined olds))
-
-  pub added_fit : (R : K → K → Ordering) (olds mids : List (List (K × ℕ))) (run : List (K × ℕ)) → mids ≡ olds ++ run ∷ [] → CountsFit R (run ++ joined olds)
-      → CountsFit R (joined mids)
-  added_fit R olds mids run e c k = omega (arith, c k, total_runs (λ x. cond (is_eq (R k x)) 1 0) mids olds run e, total-append (λ x. cond (is_eq (R k x)) 1 0) run (joined olds))
+  pub added_same : (olds news : List (List (K × ℕ))) (run : List (K × ℕ)) → news ≡ olds ++ run ∷ [] → SameTotals (joined news) (run ++ joined olds)
+  added_same olds news run e g = omega (arith, total_runs g news olds run e, total-append g run (joined olds))
 
   -- what waited is one more run
   pub settled_same : (old new run : List (K × ℕ)) (olds mids news : List (List (K × ℕ))) → run ≡ old → new ≡ [] → mids ≡ olds

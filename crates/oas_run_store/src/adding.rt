@@ -11,13 +11,12 @@ use crate::sampling::repeats;
 use crate::settling::settle;
 use oas_runs::{Block, Run};
 use std::alloc::{AllocError, Global};
-use std::cmp::Ordering;
 
 /// How many bytes wait loose, about, at most, if keys repeat: so many are sorted near the processor.
 pub(crate) const LEAST: usize = 1 << 20;
 
 /// The same if most keys differ: then fewer runs are merged.
-const MOST: usize = 1 << 22;
+const MOST: usize = 1 << 21;
 
 /// Ensures that one more key can wait loose, beside about `most` bytes.
 fn make_room(
@@ -81,15 +80,8 @@ pub(crate) fn add_key(
     ensures ok { OnOk result (SameTotals (contents rising.new loose.new runs.new.items) ((key.now, times) ∷ contents rising.old loose.old runs.old.items)) }
     ensures err { OnErr result (SameTotals (contents rising.new loose.new runs.new.items) (contents rising.old loose.old runs.old.items)) }
 {
-    match rising.order_of_last(key) {
-        Ordering::Less => {
-            rising.push(alloc, key, times)?;
-            Ok(())
-        }
-        Ordering::Equal => {
-            rising.count_last(alloc, times)?;
-            Ok(())
-        }
-        Ordering::Greater => add_loose(alloc, rising, loose, runs, most, key, times),
+    if rising.put(alloc, key, times)? {
+        return Ok(());
     }
+    add_loose(alloc, rising, loose, runs, most, key, times)
 }

@@ -128,7 +128,7 @@ fn order(one: &Loose, other: &Loose, bytes: &[u8]) -> Ordering {
 
 /// The first eight bytes as a number with the first byte highest. Where there are fewer, they are padded with zeros.
 #[inline(always)]
-fn eight_of(bytes: &[u8]) -> u64 {
+pub(crate) fn eight_of(bytes: &[u8]) -> u64 {
     if bytes.len() >= AT_ONCE {
         return number_of(bytes);
     }

@@ -1,9 +1,10 @@
 //! Rising runs: what is put at the end is above all that is there.
 
-ghost use Rattle.std.specs.Prelude.{◌≡◌, ℕ, ◌+◌, ◌<◌, ◌^◌, List, [], ◌∷◌, ◌++◌, OnOk, OnErr, IfOk, IsTrue};
+ghost use Rattle.std.specs.Prelude.{◌≡◌, ℕ, ◌+◌, ◌<◌, ◌^◌, List, [], ◌∷◌, ◌++◌, OnOk, OnErr, IfOk, IsTrue, IsFalse};
 ghost use Rattle.std.specs.declared.cmp.Ordering.TheVariants.{Less, Equal};
 ghost use Rattle.std.specs.Cmp.Lexicographic.{slice_cmp};
 ghost use Rattle.std.specs.Ordering.{nat_cmp};
+ghost use Rattle.oas_runs.specs.Runs.{copies, IsRun, SameTotals};
 ghost use Rattle.oas_run_store.specs.Parts.{IsBelow, EndsWith};
 
 use oas_runs::{Growing, Run, order_of};
@@ -59,7 +60,7 @@ impl Rising {
 
     /// How the last key compares with a key; where there is none, it is less.
     #[inline(always)]
-    pub(crate) fn order_of_last(&self, key: &[u8]) -> Ordering
+    fn order_of_last(&self, key: &[u8]) -> Ordering
         ensures below { result ≡ Less → IsBelow (slice_cmp nat_cmp) self.now key.now }
         ensures last { result ≡ Equal → EndsWith (slice_cmp nat_cmp) self.now key.now }
     {
@@ -79,13 +80,33 @@ impl Rising {
     }
 
     /// Adds to the count of the last key, or nothing.
-    pub(crate) fn count_last(&mut self, alloc: Global, times: u64) -> Result<(), AllocError>
+    fn count_last(&mut self, alloc: Global, times: u64) -> Result<(), AllocError>
         requires last { self.old ≡ [] → ⊥ }
         requires fits { (ps : List (List ℕ × ℕ)) (p : List ℕ × ℕ) → self.old ≡ ps ++ p ∷ [] → p.1 + times < 2 ^ 64 }
         ensures ok { OnOk result ((ps : List (List ℕ × ℕ)) (p : List ℕ × ℕ) → self.old ≡ ps ++ p ∷ [] → self.new ≡ ps ++ (p.0, p.1 + times) ∷ []) }
         ensures err { OnErr result (self.new ≡ self.old) }
     {
         self.done.count_last(alloc, times)
+    }
+
+    /// Puts an entry at the end, or adds it to the count of the last key where that is the same. Where the last key is above it,
+    /// or if out of memory, it puts nothing. Returns whether it did.
+    #[inline(always)]
+    pub(crate) fn put(&mut self, alloc: Global, key: &[u8], times: u64) -> Result<bool, AllocError>
+        requires some { 0 < times }
+        requires run { IsRun (slice_cmp nat_cmp) self.old }
+        requires fits { copies (slice_cmp nat_cmp) key.now self.old + times < 2 ^ 64 }
+        ensures run { IsRun (slice_cmp nat_cmp) self.new }
+        ensures put { IfOk result (λ put. IsTrue put → SameTotals self.new ((key.now, times) ∷ self.old)) }
+        ensures above { IfOk result (λ put. IsFalse put → self.new ≡ self.old) }
+        ensures err { OnErr result (self.new ≡ self.old) }
+    {
+        match self.order_of_last(key) {
+            Ordering::Less => self.push(alloc, key, times)?,
+            Ordering::Equal => self.count_last(alloc, times)?,
+            Ordering::Greater => return Ok(false),
+        }
+        Ok(true)
     }
 
     /// Returns all of it as a run, and begins a new one.

@@ -10,12 +10,22 @@ ghost use Rattle.oas_runs.specs.Entries.{entries, IsBlock};
 ghost use Rattle.oas_runs.specs.Blocks.{joined};
 ghost use Rattle.oas_run_store.specs.Parts.{contents, AreRuns, AreParts, CountsFit};
 
-use crate::joining::{add_run, join_all, join_close};
+use crate::joining::{join_all, join_many};
 use crate::loose::{Loose, in_order};
 use crate::rising::Rising;
 use oas_runs::{BLOCK, Block, Run, read_entry};
 use std::alloc::{AllocError, Global};
-use std::cmp::Ordering;
+
+/// Adds a run to the others, which have room for it.
+fn add_run(runs: &mut Vec<Run>, run: Run)
+    requires room { vec_len runs.old < vec_capacity runs.old }
+    requires run { IsRun (slice_cmp nat_cmp) run }
+    requires runs { AreRuns (slice_cmp nat_cmp) runs.old.items }
+    ensures runs { AreRuns (slice_cmp nat_cmp) runs.new.items }
+    ensures same { SameTotals (joined runs.new.items) (run ++ joined runs.old.items) }
+{
+    runs.push_reserved(run);
+}
 
 /// Closes a rising run, if it has begun, so that another begins; or changes nothing.
 fn settle_rising(alloc: Global, rising: &mut Rising, runs: &mut Vec<Run>) -> Result<(), AllocError>
@@ -32,7 +42,7 @@ fn settle_rising(alloc: Global, rising: &mut Rising, runs: &mut Vec<Run>) -> Res
     }
     runs.reserve(1)?;
     let run = rising.close(alloc);
-    add_run(alloc, runs, run);
+    add_run(runs, run);
     Ok(())
 }
 
@@ -54,13 +64,9 @@ fn put_next(
     if times == 0 {
         return Ok(());
     }
-    match summing.order_of_last(key) {
-        Ordering::Less => summing.push(alloc, key, times)?,
-        Ordering::Equal => summing.count_last(alloc, times)?,
-        Ordering::Greater => {
-            settle_rising(alloc, summing, runs)?;
-            summing.push(alloc, key, times)?;
-        }
+    if !summing.put(alloc, key, times)? {
+        settle_rising(alloc, summing, runs)?;
+        summing.push(alloc, key, times)?;
     }
     Ok(())
 }
@@ -126,21 +132,14 @@ fn settle_loose(alloc: Global, loose: &mut Block, runs: &mut Vec<Run>) -> Result
     let mut more = settled(alloc, loose)?;
     runs.append(&mut more)?;
     loose.clear();
-    join_close(alloc, runs);
     Ok(())
 }
 
 /// Puts a block among what waits loose. If out of memory, it becomes one of the runs, which have room for it.
-fn add_block(
-    alloc: Global,
-    loose: &mut Block,
-    runs: &mut Vec<Run>,
-    block: Block,
-) -> Result<(), AllocError>
+fn add_block(loose: &mut Block, runs: &mut Vec<Run>, block: Block) -> Result<(), AllocError>
     requires room { vec_len runs.old < vec_capacity runs.old }
     requires run { IsRun (slice_cmp nat_cmp) block }
     requires runs { AreRuns (slice_cmp nat_cmp) runs.old.items }
-    requires fits { CountsFit (slice_cmp nat_cmp) (block ++ joined runs.old.items) }
     requires waits { Positive loose.old }
     ensures runs { AreRuns (slice_cmp nat_cmp) runs.new.items }
     ensures waits { Positive loose.new }
@@ -149,7 +148,7 @@ fn add_block(
     match loose.append_all(&block) {
         Ok(()) => Ok(()),
         Err(error) => {
-            add_run(alloc, runs, Run::of_block(block));
+            add_run(runs, Run::of_block(block));
             Err(error)
         }
     }
@@ -170,9 +169,9 @@ fn loosen(
     runs.reserve(1)?;
     let run = rising.close(alloc);
     match run.into_block() {
-        Ok(block) => add_block(alloc, loose, runs, block),
+        Ok(block) => add_block(loose, runs, block),
         Err(whole) => {
-            add_run(alloc, runs, whole);
+            add_run(runs, whole);
             Ok(())
         }
     }
@@ -197,7 +196,7 @@ fn settle_long(
 }
 
 /// Makes runs of the rising run and of the loose keys, so that both begin anew. If out of memory, all is still held.
-pub(crate) fn settle(
+fn settle_parts(
     alloc: Global,
     rising: &mut Rising,
     loose: &mut Block,
@@ -217,6 +216,23 @@ pub(crate) fn settle(
     settle_loose(alloc, loose, runs)
 }
 
+/// Makes runs of the rising run and of the loose keys, so that both begin anew, and merges runs where there are many. If out of
+/// memory, all is still held.
+pub(crate) fn settle(
+    alloc: Global,
+    rising: &mut Rising,
+    loose: &mut Block,
+    runs: &mut Vec<Run>,
+) -> Result<(), AllocError>
+    requires { AreParts (slice_cmp nat_cmp) rising.old loose.old runs.old.items }
+    ensures parts { AreParts (slice_cmp nat_cmp) rising.new loose.new runs.new.items }
+    ensures same { SameTotals (contents rising.new loose.new runs.new.items) (contents rising.old loose.old runs.old.items) }
+{
+    settle_parts(alloc, rising, loose, runs)?;
+    join_many(alloc, runs);
+    Ok(())
+}
+
 /// Makes one run of all, or none where there are no keys, and returns whether it did. If out of memory, all is still held.
 pub(crate) fn settle_all(
     alloc: Global,
@@ -231,7 +247,7 @@ pub(crate) fn settle_all(
     ensures loose { IsTrue result → loose.new ≡ [] }
     ensures one { IsTrue result → vec_len runs.new ≤ 1 }
 {
-    if settle(alloc, rising, loose, runs).is_err() {
+    if settle_parts(alloc, rising, loose, runs).is_err() {
         return false;
     }
     join_all(alloc, runs)

@@ -1,6 +1,5 @@
 pub mod Blocks
 pub mod Comparing
 pub mod Entries
-pub mod Merging
 pub mod Runs
 pub mod Laws

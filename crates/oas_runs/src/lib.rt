@@ -14,17 +14,13 @@
 //! - A [`Growing`] run is written entry by entry into blocks of bytes. Its last entry can be read, and its count can grow. If
 //!   out of memory it is unchanged. It becomes a [`Run`] of the same entries without allocation. [`Growing::fit`] doesn't change
 //!   the list.
-//! - [`merge_all`] moves two runs to the end of an empty one, and adds the counts of a key that both have. The result is a
-//!   run, with as much of each key as before (`IsMerging`, specs/Merging.antt). If out of memory in the middle, the three
-//!   together hold what the two did.
 //! - [`order_of`] compares two keys byte by byte. [`number_of`] is the number of eight bytes, with the first of them highest.
 //!
 //! [`Block::size`], [`Growing::size`] and [`Run::size`] say about how many bytes a block or a run has. They, [`BLOCK`] and
 //! [`AT_ONCE`] only help to decide what to do: no contract is about them, about time or about bytes.
 //!
 //! How keys are compared: eight bytes at once, as a number with the first byte highest, as long as both keys have eight more
-//! (proofs/OrderLemmas.antt: such numbers are ordered as their bytes), and then byte by byte. A merge frees each block that
-//! it has read.
+//! (proofs/OrderLemmas.antt: such numbers are ordered as their bytes), and then byte by byte.
 #![tactic(auto)]
 
 mod block;
@@ -33,7 +29,6 @@ mod comparing;
 mod entries;
 mod entry;
 mod growing;
-mod merge;
 mod ordering;
 mod recount;
 mod room;
@@ -43,6 +38,5 @@ pub use block::{BLOCK, Block};
 pub use entries::Entries;
 pub use entry::{Entry, after, read_entry};
 pub use growing::Growing;
-pub use merge::merge_all;
 pub use ordering::{AT_ONCE, number_of, order_of};
 pub use run::Run;

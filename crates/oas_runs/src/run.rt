@@ -93,24 +93,13 @@ impl Run {
 
     /// Takes the first entry, which has this many bytes.
     #[inline(always)]
-    pub(crate) fn pass(&mut self, end: usize)
+    pub fn pass(&mut self, end: usize)
         requires { FirstHas end self.old }
         ensures { (p : List ℕ × ℕ) × (self.old ≡ p ∷ self.new) }
     {
         self.first.pass(end);
         if self.first.is_empty() {
             next_block(&mut self.first, &mut self.rest);
-        }
-    }
-
-    /// Takes the first entry.
-    pub fn pop_first(&mut self)
-        requires { self.old ≡ [] → ⊥ }
-        ensures { (p : List ℕ × ℕ) × (self.old ≡ p ∷ self.new) }
-    {
-        if let Some(entry) = self.first() {
-            let end = entry.end;
-            self.pass(end);
         }
     }
 }

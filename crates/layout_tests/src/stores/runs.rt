@@ -31,8 +31,9 @@ fn gives(run: &Run, wanted: &[(u8, u64)]) -> bool {
 /// Whether all except the first come out once that is taken.
 fn gives_others(alloc: Global) -> Result<bool, Fail> {
     let mut run = written(alloc, &[(0, 7), (1, 2), (3, 400), (9, 1)])?;
-    if !run.is_empty() {
-        run.pop_first();
+    if let Some(entry) = run.first() {
+        let end = entry.end;
+        run.pass(end);
     }
     Ok(gives(&run, &[(1, 2), (3, 400), (9, 1)]))
 }

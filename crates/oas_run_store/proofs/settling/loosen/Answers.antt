@@ -1,21 +1,8 @@
 use Rattle.std.proofs.Common.{◌∙◌, refl}
 use Rattle.std.specs.Cmp.Lexicographic.{slice_cmp}
 use Rattle.std.specs.Ordering.{nat_cmp}
-use Rattle.oas_run_store.proofs.PartLemmas.{settled_fit, rising_fit}
 use Rattle.oas_run_store.proofs.LooseLemmas.{block_run, risen_same, risen_parts}
 use Rattle.oas_run_store.proofs.settling.loosen.Goals as goal
-
-pub add_block-requires-clause-fits : goal.add_block-requires-clause-fits
-add_block-requires-clause-fits c =
-    settled_fit (slice_cmp nat_cmp) c.args.rising.now c.in-Ok.block c.args.runs.now.items c.reserve.new.self.items
-    (c.in-Ok.ensures.ok ∙ c.close-run.ensures.run) c.in_ok-reserve.ensures.items
-    (rising_fit (slice_cmp nat_cmp) c.args.rising.now c.args.loose.now c.args.runs.now.items c.requires.fits)
-
-pub add_run-requires-clause-fits : goal.add_run-requires-clause-fits
-add_run-requires-clause-fits c =
-    settled_fit (slice_cmp nat_cmp) c.args.rising.now c.in-Err.whole c.args.runs.now.items c.reserve.new.self.items
-    (c.in-Err.ensures.err ∙ c.close-run.ensures.run) c.in_ok-reserve.ensures.items
-    (rising_fit (slice_cmp nat_cmp) c.args.rising.now c.args.loose.now c.args.runs.now.items c.requires.fits)
 
 pub returns-in-Ok-clause-parts : goal.returns-in-Ok-clause-parts
 returns-in-Ok-clause-parts c =

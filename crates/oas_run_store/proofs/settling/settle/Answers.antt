@@ -1,18 +1,18 @@
 use Rattle.std.proofs.Common.{◌∙◌}
 use Rattle.std.specs.Cmp.Lexicographic.{slice_cmp}
 use Rattle.std.specs.Ordering.{nat_cmp}
-use Rattle.oas_run_store.proofs.LooseLemmas.{loose_fit, loose_same, loose_parts}
+use Rattle.oas_run_store.proofs.StoreLemmas.{joined_fit, same_joined, parts_joined}
 use Rattle.oas_run_store.proofs.settling.settle.Goals as goal
 
-pub settle_loose-requires-clause-fits : goal.settle_loose-requires-clause-fits
-settle_loose-requires-clause-fits c = loose_fit (slice_cmp nat_cmp) c.loosen.new.rising c.loosen.new.loose c.loosen.new.runs.items c.loosen.ensures.parts.fits
+pub join_many-requires-clause-fits : goal.join_many-requires-clause-fits
+join_many-requires-clause-fits c =
+    joined_fit (slice_cmp nat_cmp) c.settle_parts.new.rising c.settle_parts.new.loose c.settle_parts.new.runs.items c.settle_parts.ensures.parts.fits
 
 pub returns-clause-parts : goal.returns-clause-parts
-returns-clause-parts c =
-    loose_parts (slice_cmp nat_cmp) c.loosen.new.rising c.loosen.new.loose c.settle_loose.new.loose c.loosen.new.runs.items
-    c.settle_loose.new.runs.items c.loosen.ensures.parts c.settle_loose.ensures.waits c.settle_loose.ensures.runs c.settle_loose.ensures.same
+returns-clause-parts c = parts_joined (slice_cmp nat_cmp) c.settle_parts.new.rising c.settle_parts.new.loose c.settle_parts.new.runs.items
+    c.join_many.new.runs.items c.settle_parts.ensures.parts c.join_many.ensures.runs c.join_many.ensures.same
 
 pub returns-clause-same : goal.returns-clause-same
 returns-clause-same c = λ g.
-    loose_same c.loosen.new.rising c.loosen.new.loose c.settle_loose.new.loose c.loosen.new.runs.items c.settle_loose.new.runs.items c.settle_loose.ensures.same g
-    ∙ c.loosen.ensures.same g ∙ c.settle_long.ensures.same g
+    same_joined c.settle_parts.new.rising c.settle_parts.new.loose c.settle_parts.new.runs.items c.join_many.new.runs.items c.join_many.ensures.same g
+    ∙ c.settle_parts.ensures.same g
