@@ -55,7 +55,7 @@ impl ElementStore {
         requires run { IsRun (slice_cmp nat_cmp) block.old }
         requires room { total (λ _. 1) block.old < 2 ^ 64 }
         ensures ok { IfOk result (λ store. store ≡ block.old) }
-        ensures run { OnOk result (block.new ≡ []) }
+        ensures taken { OnOk result (block.new ≡ []) }
         ensures err { OnErr result (block.new ≡ block.old) }
     {
         let mut filling = Box::new(alloc, Filling::new(alloc))?;
