@@ -32,7 +32,7 @@ use Rattle.oas_reader.specs.Stores.{Draws, IsBegun}
 use Rattle.oas_reader.proofs.StoreLemmas.{draws_none}
 use Rattle.oas_reader.proofs.TakeLemmas.{all_append}
 use Rattle.oas_reader.proofs.WeightLemmas.{capped_more}
-use Rattle.oas_cells.specs.Compact.{Compact, is_named, by_key, by_number, IsKey, IsSoundNamed, Keeps, WaitsMore, compact_store}
+use Rattle.oas_cells.specs.Compact.{Compact, number_drawn, is_named, by_key, by_number, IsKey, IsSoundNamed, Keeps, WaitsMore, compact_store}
 use Rattle.oas_cells.proofs.KeptLemmas.{normal_sound}
 
 -- ---- counted lists
@@ -70,8 +70,8 @@ all_times P d (suc n) h = (h, all_times P d n h)
 sum_more : (d : Drawn) (n : ℕ) (g : Drawn → ℕ) (before : List Drawn) → sum_by g (before ++ replicate n d) ≡ sum_by g before + n * g d
 sum_more d n g before = sum_by-append g before (replicate n d) ∙ ap (λ (k : ℕ). sum_by g before + k) (sum_by-replicate g n d)
 
-number_more : (d : Drawn) (n was : ℕ) (before : List Drawn) → was ≡ length before → was + n ≡ length (before ++ replicate n d)
-number_more d n was before is = omega (arith, is, length-append before (replicate n d), length-replicate n d)
+number_more : (d : Drawn) (n was now : ℕ) (before : List Drawn) → was ≡ length before → now ≡ was + n → now ≡ length (before ++ replicate n d)
+number_more d n was now before is more = omega (arith, is, more, length-append before (replicate n d), length-replicate n d)
 
 weight_more : (d : Drawn) (n was now : ℕ) (before : List Drawn) → was ≡ capped (sum_by weight_so_far before) → now ≡ capped (was + capped (weight_so_far d * n))
     → now ≡ capped (sum_by weight_so_far (before ++ replicate n d))
@@ -94,12 +94,12 @@ waiting_more g ps d n = total-put_more drawn_cmp g ps d n (λ x h. ap g (sym (ex
 module _ (profile : Profile) (n : ℕ) where
   -- an element is kept
   pub kept : (old new : Compact) (e : Element) → IsSound e → new
-      ≡ record { cell = old.cell; count = old.count + n; weight = capped (old.weight + capped (weight_of e * n)); keys = put_more (slice_cmp nat_cmp) old.keys (key_of (normal profile e)) n; waiting = old.waiting }
+      ≡ record { cell = old.cell; weight = capped (old.weight + capped (weight_of e * n)); keys = put_more (slice_cmp nat_cmp) old.keys (key_of (normal profile e)) n; waiting = old.waiting }
       → Draws (compact_store profile) old (replicate n (Named e)) new
   kept old new e sound is =
       subst (Draws (compact_store profile) old (replicate n (Named e))) (sym is) (record {
         cell = refl;
-        count = omega (arith, length-replicate n (Named e));
+        count = omega (arith, number, length-replicate n (Named e));
         sound = λ s. record {
           drawn = s.drawn ++ replicate n (Named e);
           keeps = holds s.drawn s.keeps;
@@ -115,11 +115,14 @@ module _ (profile : Profile) (n : ℕ) where
       none k = omega arith
 
       more : Compact
-      more = record { cell = old.cell; count = old.count + n; weight = capped (old.weight + capped (weight_of e * n)); keys = put_more (slice_cmp nat_cmp) old.keys (key_of (normal profile e)) n; waiting = old.waiting }
+      more = record { cell = old.cell; weight = capped (old.weight + capped (weight_of e * n)); keys = put_more (slice_cmp nat_cmp) old.keys (key_of (normal profile e)) n; waiting = old.waiting }
+
+      number : number_drawn more.keys more.waiting ≡ number_drawn old.keys old.waiting + n
+      number = omega (arith, few_is (slice_cmp nat_cmp) old.keys (key_of (normal profile e)) n)
 
       holds : (before : List Drawn) → Keeps profile old before → Keeps profile more (before ++ replicate n (Named e))
       holds before b = record {
-        count = number_more (Named e) n old.count before b.count;
+        count = number_more (Named e) n (number_drawn old.keys old.waiting) _ before b.count number;
         sound = all_append IsSoundNamed before (replicate n (Named e)) b.sound (all_times IsSoundNamed (Named e) n sound);
         weight = weight_more (Named e) n old.weight _ before b.weight refl;
         keys = λ g. keys_more g old.keys (key_of (normal profile e)) n ∙ (ap (λ (k : ℕ). k + n * g (key_of (normal profile e))) (b.keys g) ∙ sym (sum_more (Named e) n (by_key profile g) before));
@@ -149,12 +152,12 @@ module _ (profile : Profile) (n : ℕ) where
 
   -- something waits
   pub waits : (old new : Compact) (d : Drawn) (ws : List (Drawn × ℕ)) → 0 < n → n < 2 ^ 64 → IsFit d → is_named d ≡ false → WaitsMore old.waiting d n ws → new
-      ≡ record { cell = old.cell; count = old.count + n; weight = capped (old.weight + n); keys = old.keys; waiting = ws }
+      ≡ record { cell = old.cell; weight = capped (old.weight + n); keys = old.keys; waiting = ws }
       → Draws (compact_store profile) old (replicate n d) new
   waits old new d ws some small fit numbered more is =
       subst (Draws (compact_store profile) old (replicate n d)) (sym is) (record {
         cell = refl;
-        count = omega (arith, length-replicate n d);
+        count = omega (arith, number, length-replicate n d);
         sound = λ s. record {
           drawn = s.drawn ++ replicate n d;
           keeps = holds s.drawn s.keeps;
@@ -177,11 +180,14 @@ module _ (profile : Profile) (n : ℕ) where
       same = sym (ap capped one ∙ exact n small)
 
       now : Compact
-      now = record { cell = old.cell; count = old.count + n; weight = capped (old.weight + n); keys = old.keys; waiting = ws }
+      now = record { cell = old.cell; weight = capped (old.weight + n); keys = old.keys; waiting = ws }
+
+      number : number_drawn old.keys ws ≡ number_drawn old.keys old.waiting + n
+      number = omega (arith, more.sums (λ _. 1))
 
       holds : (before : List Drawn) → Keeps profile old before → Keeps profile now (before ++ replicate n d)
       holds before b = record {
-        count = number_more d n old.count before b.count;
+        count = number_more d n (number_drawn old.keys old.waiting) _ before b.count number;
         sound = all_append IsSoundNamed before (replicate n d) b.sound (all_times IsSoundNamed d n (sound_numbered d numbered));
         weight = weight_more d n old.weight _ before b.weight (ap (λ (k : ℕ). capped (old.weight + k)) same);
         keys = λ g. b.keys g ∙ sym (sum_more d n (by_key profile g) before ∙ ap (λ (k : ℕ). sum_by (by_key profile g) before + n * k) (by_key_none d numbered g) ∙ none (sum_by (by_key profile g) before));
@@ -190,29 +196,29 @@ module _ (profile : Profile) (n : ℕ) where
       }
 
 -- the same for a cell whose parts are known
-module _ (profile : Profile) (n : ℕ) (old : Compact) (a : CellRef) (k v w : ℕ) (ks : List Entry) (ws : List (Drawn × ℕ))
-    (view : ◌≡◌ {A = Compact} (record { cell = a; count = k; weight = v; keys = ks; waiting = ws }) old) where
-  pub kept_up : (e : Element) (qs : List Entry) → IsSound e → w ≡ capped (v + capped (weight_of e * n)) → qs ≡ put_more (slice_cmp nat_cmp) ks (key_of (normal profile e)) n
-      → Draws (compact_store profile) old (replicate n (Named e)) (record { cell = a; count = k + n; weight = w; keys = qs; waiting = ws })
-  kept_up e qs sound weighs is =
-      subst (λ (o : Compact). Draws (compact_store profile) o (replicate n (Named e)) (record { cell = a; count = k + n; weight = w; keys = qs; waiting = ws })) view
-      (kept profile n (record { cell = a; count = k; weight = v; keys = ks; waiting = ws }) _ e sound (λ i. record { cell = a; count = k + n; weight = weighs i; keys = is i; waiting = ws }))
+module _ (profile : Profile) (n : ℕ) (old : Compact) (a : CellRef) (v w : ℕ) (ks : List Entry) (ws : List (Drawn × ℕ))
+    (view : ◌≡◌ {A = Compact} (record { cell = a; weight = v; keys = ks; waiting = ws }) old) where
+  pub kept_up : (e : Element) (qs : List Entry) (us : List (Drawn × ℕ)) → IsSound e → w ≡ capped (v + capped (weight_of e * n)) → qs ≡ put_more (slice_cmp nat_cmp) ks (key_of (normal profile e)) n → us ≡ ws
+      → Draws (compact_store profile) old (replicate n (Named e)) (record { cell = a; weight = w; keys = qs; waiting = us })
+  kept_up e qs us sound weighs is same =
+      subst (λ (o : Compact). Draws (compact_store profile) o (replicate n (Named e)) (record { cell = a; weight = w; keys = qs; waiting = us })) view
+      (kept profile n (record { cell = a; weight = v; keys = ks; waiting = ws }) _ e sound (λ i. record { cell = a; weight = weighs i; keys = is i; waiting = same i }))
 
-  pub waits_up : (d : Drawn) (xs : List (Drawn × ℕ)) → 0 < n → n < 2 ^ 64 → IsFit d → is_named d ≡ false → w ≡ capped (v + n) → WaitsMore ws d n xs
-      → Draws (compact_store profile) old (replicate n d) (record { cell = a; count = k + n; weight = w; keys = ks; waiting = xs })
-  waits_up d xs some small fit numbered weighs more =
-      subst (λ (o : Compact). Draws (compact_store profile) o (replicate n d) (record { cell = a; count = k + n; weight = w; keys = ks; waiting = xs })) view
-      (waits profile n (record { cell = a; count = k; weight = v; keys = ks; waiting = ws }) _ d xs some small fit numbered more (λ i. record { cell = a; count = k + n; weight = weighs i; keys = ks; waiting = xs }))
+  pub waits_up : (d : Drawn) (qs : List Entry) (xs : List (Drawn × ℕ)) → 0 < n → n < 2 ^ 64 → IsFit d → is_named d ≡ false → w ≡ capped (v + n) → qs ≡ ks → WaitsMore ws d n xs
+      → Draws (compact_store profile) old (replicate n d) (record { cell = a; weight = w; keys = qs; waiting = xs })
+  waits_up d qs xs some small fit numbered weighs same more =
+      subst (λ (o : Compact). Draws (compact_store profile) o (replicate n d) (record { cell = a; weight = w; keys = qs; waiting = xs })) view
+      (waits profile n (record { cell = a; weight = v; keys = ks; waiting = ws }) _ d xs some small fit numbered more (λ i. record { cell = a; weight = weighs i; keys = same i; waiting = xs }))
 
 -- nothing changes
 pub unchanged : (profile : Profile) (old new : Compact) → new ≡ old → Draws (compact_store profile) old [] new
 unchanged profile old new is = subst (Draws (compact_store profile) old []) (sym is) (draws_none (compact_store profile) old)
 
 -- nothing is drawn yet
-pub begun : (profile : Profile) (c : CellRef) (s : Compact) → s ≡ record { cell = c; count = 0; weight = 0; keys = []; waiting = [] } → IsBegun (compact_store profile) c s
+pub begun : (profile : Profile) (c : CellRef) (s : Compact) → s ≡ record { cell = c; weight = 0; keys = []; waiting = [] } → IsBegun (compact_store profile) c s
 begun profile c s is =
     subst (IsBegun (compact_store profile) c) (sym is)
     (record { cell = refl; count = refl; sound = record { keys = tt; waiting = tt; drawn = []; keeps = none }; holds = none })
   where
-    none : Keeps profile (record { cell = c; count = 0; weight = 0; keys = []; waiting = [] }) []
+    none : Keeps profile (record { cell = c; weight = 0; keys = []; waiting = [] }) []
     none = record { count = refl; sound = tt; weight = refl; keys = λ g. refl; waiting = λ g. refl }

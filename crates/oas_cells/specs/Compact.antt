@@ -16,14 +16,17 @@ use Rattle.oas_reader.specs.Finish.{IsFit}
 use Rattle.oas_reader.specs.Weights.{capped}
 use Rattle.oas_reader.specs.Stores.{Store}
 
--- its reference, how many elements its records draw, their weight as long as numbers have no names, the keys of those that
--- have their names, ascending, and those that wait for names, each with its count
+-- its reference, the weight of what its records draw as long as numbers have no names, the keys of the elements that have their
+-- names, ascending, and what waits for names, each with its count
 pub record Compact : Type 0 where
   pub cell : CellRef
-  pub count : ℕ
   pub weight : ℕ
   pub keys : List Entry
   pub waiting : List (Drawn × ℕ)
+
+-- how many were drawn
+abbrev pub number_drawn : List Entry → List (Drawn × ℕ) → ℕ
+number_drawn ks ws = total (λ _. 1) ks + total (λ _. 1) ws
 
 -- whether it isn't drawn by a number
 abbrev pub is_named : Drawn → Bool
@@ -52,7 +55,7 @@ IsSoundNamed (TextBy number textlayer texttype x y) = Unit {0}
 -- These were drawn: as many, each sound that has its name, and whatever each key counts for, and each thing by a number, the sums
 -- are equal.
 pub record Keeps (profile : Profile) (c : Compact) (ds : List Drawn) : Type 0 where
-  pub count : c.count ≡ length ds
+  pub count : number_drawn c.keys c.waiting ≡ length ds
   pub sound : AllByRecursion IsSoundNamed ds
   pub weight : c.weight ≡ capped (sum_by weight_so_far ds)
   pub keys : (g : List ℕ → ℕ) → total g c.keys ≡ sum_by (by_key profile g) ds
@@ -95,7 +98,7 @@ pub record IsCompact (profile : Profile) (c : Compact) : Type 0 where
 abbrev pub compact_store : Profile → Store Compact
 compact_store profile = record {
   cell = λ c. c.cell;
-  count = λ c. c.count;
+  count = λ c. number_drawn c.keys c.waiting;
   IsSound = IsCompact profile;
   Holds = Keeps profile;
 }

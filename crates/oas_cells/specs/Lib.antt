@@ -7,7 +7,7 @@ pub use Rattle.oas_keys.specs.declared.points.SpelledPoints
 pub use Rattle.oas_keys.specs.declared.points.SpelledSteps
 pub use Rattle.oas_run_store.specs.Laws.TallyLaws
 pub use Rattle.oas_run_store.specs.Tally
-pub mod Forms
+pub mod Held
 pub mod Short
 pub mod Compact
 pub mod Weighing

@@ -14,16 +14,14 @@ ghost use Rattle.oas_reader.specs.Named.{drawn_once};
 ghost use Rattle.oas_reader.specs.Meaning.{elements_by_name};
 ghost use Rattle.oas_reader.specs.Finish.{IsFit};
 ghost use Rattle.oas_reader.specs.Stores.{Draws};
-ghost use Rattle.oas_cells.specs.Compact.{compact_store, is_named, AreKeys, IsCompact, Keeps};
+ghost use Rattle.oas_cells.specs.Compact.{compact_store, is_named, number_drawn, AreKeys, IsCompact, Keeps};
 ghost use Rattle.oas_cells.specs.Laws.CompactLaws.{kept_in_any_order};
 ghost use Rattle.oas_cells.specs.Placing.{MeansElements};
 
-use crate::elements::ElementStore;
+use crate::held::Held;
 use crate::placing::place_all;
 use crate::profiles::KeptBy;
 use crate::ranking::Ranks;
-use crate::sorting::MANY;
-use crate::waiting::Waiting;
 use oas_elements::{Element, Turns};
 use oas_num::{Label, Name, Why};
 use oas_reader::{CellStore, Drawn, DrawnOnce, NameTable, Weighed, head_weight};
@@ -36,26 +34,24 @@ use std::marker::{Model, PhantomData};
 /// from them what is drawn by numbers.
 #[derive(Drop)]
 pub struct CompactCell<P: KeptBy> {
+    alloc: Global,
     cell: CellRef,
-    /// How many elements were drawn.
-    count: u64,
     /// The weight of what was drawn as long as numbers have no names; at most what 64 bits hold, which exceeds all limits.
     weight: u64,
-    kept: ElementStore,
-    waiting: Waiting,
+    held: Held,
     by: PhantomData<P>,
 }
 
 impl<P: KeptBy> Model for CompactCell<P> {
-    ghost use Rattle.std.specs.Prelude.{◌+◌, ◌≤◌};
-    ghost use Rattle.oas_elements.specs.Laws.BagLaws.{total};
-    ghost use Rattle.oas_cells.specs.Compact.{Compact};
+    ghost use Rattle.std.specs.Prelude.{◌<◌, ◌^◌};
+    ghost use Rattle.oas_cells.specs.Compact.{Compact, number_drawn};
+    ghost use Rattle.oas_cells.specs.Held.{keys_in, waiting_in, IsHeld};
 
     ghost Value = { Compact };
 
-    ghost view = { λ a. record { cell = a.cell; count = a.count; weight = a.weight; keys = a.kept; waiting = a.waiting } };
+    ghost view = { λ a. record { cell = a.cell; weight = a.weight; keys = keys_in a.held; waiting = waiting_in a.held } };
 
-    ghost invariant = { λ a. total (λ _. 1) a.kept + total (λ _. 1) a.waiting ≤ a.count };
+    ghost invariant = { λ a. IsHeld a.held × (number_drawn (keys_in a.held) (waiting_in a.held) < 2 ^ 64) };
 }
 
 impl<P: KeptBy> CompactCell<P> {
@@ -75,14 +71,20 @@ impl<P: KeptBy> CompactCell<P> {
         ensures sound { (ds : List SomeDrawn) → Keeps P.profile self ds → IfOk result (λ run. AllByRecursion IsSound (elements_by_name names.now.named strings.now.named ds)) }
         ensures err { IfErr result (λ why. why ≡ Memory) }
     {
-        let CompactCell {
-            mut kept,
-            waiting,
-            ..
-        } = self;
-        place_all(P::profile(), &mut kept, waiting, names, strings, ranks)?;
-        let run = kept.close()?;
-        Ok(run)
+        let CompactCell { held, .. } = self;
+        match held {
+            Held::Closed(block) => Ok(Run::of_block(block)),
+            Held::Open(mut kept, waiting) => {
+                place_all(P::profile(), &mut kept, waiting, names, strings, ranks)?;
+                let run = kept.close()?;
+                Ok(run)
+            }
+        }
+    }
+
+    /// How much waits in few bytes, about.
+    pub(crate) fn count_waiting(&self) -> usize {
+        self.held.count_waiting()
     }
 
     /// Draws an element this many more times, in its kept form.
@@ -90,13 +92,16 @@ impl<P: KeptBy> CompactCell<P> {
     fn keep(&mut self, element: Element, times: u64) -> Result<(), AllocError>
         requires some { 0 < times }
         requires fit { IsFit (OneNamed element) }
-        requires room { self.old.count + times < 2 ^ 64 }
+        requires room { number_drawn self.old.keys self.old.waiting + times < 2 ^ 64 }
         ensures ok { OnOk result (Draws (compact_store P.profile) self.old (replicate times (OneNamed element)) self.new) }
         ensures err { OnErr result (self.new ≡ self.old) }
     {
         let weight = element.weight().saturating_mul(times);
-        self.kept.add(P::profile(), &element, times)?;
-        self.count += times;
+        self.held.open(self.alloc)?;
+        let Held::Open(kept, _) = &mut self.held else {
+            return Err(AllocError);
+        };
+        kept.add(P::profile(), &element, times)?;
         self.weight = self.weight.saturating_add(weight);
         Ok(())
     }
@@ -111,14 +116,17 @@ impl<P: KeptBy> CompactCell<P> {
         flip: bool,
     ) -> Result<(), AllocError>
         requires fit { IsFit (drawn_once (OnePlacement cell x y turns flip)) }
-        requires room { self.old.count + 1 < 2 ^ 64 }
+        requires room { number_drawn self.old.keys self.old.waiting + 1 < 2 ^ 64 }
         ensures ok { OnOk result (Draws (compact_store P.profile) self.old (drawn_once (OnePlacement cell.entry x y turns flip) ∷ []) self.new) }
         ensures err { OnErr result (self.new ≡ self.old) }
     {
         match cell {
             CellRef::Name(name) => {
-                self.kept.add_placement(name, x, y, turns, flip, 1)?;
-                self.count += 1;
+                self.held.open(self.alloc)?;
+                let Held::Open(kept, _) = &mut self.held else {
+                    return Err(AllocError);
+                };
+                kept.add_placement(name, x, y, turns, flip, 1)?;
                 let weight = 1 + name.as_bytes().len() as u64;
                 self.weight = self.weight.saturating_add(weight);
                 Ok(())
@@ -146,14 +154,17 @@ impl<P: KeptBy> CompactCell<P> {
         y: i64,
     ) -> Result<(), AllocError>
         requires fit { IsFit (drawn_once (OneText string textlayer texttype x y)) }
-        requires room { self.old.count + 1 < 2 ^ 64 }
+        requires room { number_drawn self.old.keys self.old.waiting + 1 < 2 ^ 64 }
         ensures ok { OnOk result (Draws (compact_store P.profile) self.old (drawn_once (OneText string.entry textlayer texttype x y) ∷ []) self.new) }
         ensures err { OnErr result (self.new ≡ self.old) }
     {
         match string {
             TextRef::Label(label) => {
-                self.kept.add_text(label, textlayer, texttype, x, y, 1)?;
-                self.count += 1;
+                self.held.open(self.alloc)?;
+                let Held::Open(kept, _) = &mut self.held else {
+                    return Err(AllocError);
+                };
+                kept.add_text(label, textlayer, texttype, x, y, 1)?;
                 let weight = 1 + label.as_bytes().len() as u64;
                 self.weight = self.weight.saturating_add(weight);
                 Ok(())
@@ -176,12 +187,15 @@ impl<P: KeptBy> CompactCell<P> {
         requires some { 0 < times }
         requires fit { IsFit drawn }
         requires unnamed { is_named drawn ≡ false }
-        requires room { self.old.count + times < 2 ^ 64 }
+        requires room { number_drawn self.old.keys self.old.waiting + times < 2 ^ 64 }
         ensures ok { OnOk result (Draws (compact_store P.profile) self.old (replicate times drawn) self.new) }
         ensures err { OnErr result (self.new ≡ self.old) }
     {
-        self.waiting.add(drawn, times)?;
-        self.count += times;
+        self.held.open(self.alloc)?;
+        let Held::Open(_, waiting) = &mut self.held else {
+            return Err(AllocError);
+        };
+        waiting.add(drawn, times)?;
         self.weight = self.weight.saturating_add(times);
         Ok(())
     }
@@ -198,11 +212,10 @@ impl<P: KeptBy> CellStore for CompactCell<P> {
 
     fn begin(alloc: Global, cell: CellRef) -> CompactCell<P> {
         CompactCell {
+            alloc,
             cell,
-            count: 0,
             weight: 0,
-            kept: ElementStore::new(alloc),
-            waiting: Waiting::new(alloc),
+            held: Held::new(alloc),
             by: PhantomData,
         }
     }
@@ -212,13 +225,7 @@ impl<P: KeptBy> CellStore for CompactCell<P> {
     }
 
     fn rest(&mut self) {
-        // What waits is added to the elements later.
-        if self.waiting.is_empty() {
-            self.kept.rest();
-        } else {
-            self.kept.pause();
-            self.waiting.rest();
-        }
+        self.held.rest();
     }
 
     #[inline(always)]
@@ -254,37 +261,9 @@ impl<P: KeptBy> CellStore for CompactCell<P> {
 impl<P: KeptBy> Weighed for CompactCell<P> {
     fn weight_with(&self, names: &NameTable<Name>, strings: &NameTable<Label>) -> Option<u64> {
         let head = head_weight(&self.cell, names)?;
-        let waiting = self.waiting.weight_by(names, strings)?;
+        let waiting = self.held.weight_by(names, strings)?;
         Some(head.saturating_add(self.weight.saturating_add(waiting)))
     }
-}
-
-/// How many names are worth their ranks, for each that waits for one.
-const NAMES: usize = 4;
-
-/// The ranks by which [`CompactCell::into_run`] is faster, where enough waits in some of these cells that they are worth their
-/// time; or out of memory.
-pub fn ranks_for<P: KeptBy>(
-    alloc: Global,
-    cells: &[CompactCell<P>],
-    names: &NameTable<Name>,
-    strings: &NameTable<Label>,
-) -> Result<Option<Ranks>, AllocError> {
-    let mut waiting = 0usize;
-    for cell in cells {
-        let count = cell.waiting.count();
-        if count >= MANY {
-            waiting = waiting.saturating_add(count);
-        }
-    }
-    let all = names
-        .in_order()
-        .len()
-        .saturating_add(strings.in_order().len());
-    if waiting == 0 || all / NAMES > waiting {
-        return Ok(None);
-    }
-    Ok(Some(Ranks::of(alloc, names, strings)?))
 }
 
 /// The element, where it isn't drawn by a number.

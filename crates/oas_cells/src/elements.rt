@@ -1,6 +1,6 @@
 //! Elements as their keys, each once with its count.
 
-ghost use Rattle.std.specs.Prelude.{◌≡◌, ◌+◌, ◌<◌, ◌^◌, [], false, true, OnOk, OnErr, IfOk};
+ghost use Rattle.std.specs.Prelude.{◌≡◌, ◌+◌, ◌<◌, ◌^◌, [], false, true, OnOk, OnErr, IfOk, IfSome, IfNone};
 ghost use Rattle.std.specs.Ordering.{nat_cmp};
 ghost use Rattle.std.specs.Cmp.Lexicographic.{slice_cmp};
 ghost use Rattle.oas_elements.specs.declared.element.Element.TheVariants.{Placement, Text};
@@ -22,33 +22,21 @@ use std::marker::Model;
 use std::mem;
 
 /// Distinct elements with their counts, each in the form in which a profile keeps it. Elements are added in any order; contracts
-/// see the ascending list of their keys with counts. Few elements take little more memory than their keys while none is added.
+/// see the ascending list of their keys with counts. Where none was added, it takes no memory beside a pointer.
 #[derive(Drop)]
 pub struct ElementStore {
     alloc: Global,
-    form: Form,
-}
-
-/// How keys are held.
-#[derive(Drop)]
-pub(crate) enum Form {
-    /// Ascending, in one block, until an element is added.
-    Closed(Block),
-    /// In any order.
-    Open(Box<Filling>),
+    filling: Option<Box<Filling>>,
 }
 
 impl Model for ElementStore {
-    ghost use Rattle.std.specs.Prelude.{List};
+    ghost use Rattle.std.specs.Prelude.{List, []};
+    ghost use Rattle.std.specs.Option.{option_map_or};
     ghost use Rattle.oas_runs.specs.Entries.{Entry};
 
     ghost Value = { List Entry };
 
-    ghost use Rattle.oas_cells.specs.Forms.{keys_in, IsForm};
-
-    ghost view = { λ a. keys_in a.form };
-
-    ghost invariant = { λ a. IsForm a.form };
+    ghost view = { λ a. option_map_or (λ f. f.value) a.filling [] };
 }
 
 impl ElementStore {
@@ -58,8 +46,25 @@ impl ElementStore {
     {
         ElementStore {
             alloc,
-            form: Form::Closed(Block::new(alloc)),
+            filling: None,
         }
+    }
+
+    /// The elements of a block, which is then empty. If out of memory it changes nothing.
+    pub(crate) fn of_block(alloc: Global, block: &mut Block) -> Result<ElementStore, AllocError>
+        requires run { IsRun (slice_cmp nat_cmp) block.old }
+        requires room { total (λ _. 1) block.old < 2 ^ 64 }
+        ensures ok { IfOk result (λ store. store ≡ block.old) }
+        ensures taken { OnOk result (block.new ≡ []) }
+        ensures err { OnErr result (block.new ≡ block.old) }
+    {
+        let mut filling = Box::new(alloc, Filling::new(alloc))?;
+        filling.reserve()?;
+        filling.begin(mem::replace(block, Block::new(alloc)));
+        Ok(ElementStore {
+            alloc,
+            filling: Some(filling),
+        })
     }
 
     /// Adds an element in its kept form, this many times. If out of memory it adds nothing.
@@ -95,10 +100,9 @@ impl ElementStore {
     /// Takes the memory in which elements are added, where it isn't there yet. If out of memory it changes nothing.
     #[inline(always)]
     fn open(&mut self) -> Result<(), AllocError>
-        requires { total (λ _. 1) self.old < 2 ^ 64 }
         ensures { self.new ≡ self.old }
     {
-        if matches!(self.form, Form::Open(_)) {
+        if self.filling.is_some() {
             return Ok(());
         }
         self.begin()
@@ -107,16 +111,13 @@ impl ElementStore {
     /// Takes the memory in which elements are added. If out of memory it changes nothing.
     #[inline(never)]
     fn begin(&mut self) -> Result<(), AllocError>
-        requires { total (λ _. 1) self.old < 2 ^ 64 }
         ensures { self.new ≡ self.old }
     {
-        let Form::Closed(block) = &mut self.form else {
-            return Ok(());
-        };
-        let mut filling = Box::new(self.alloc, Filling::new(self.alloc))?;
-        filling.reserve()?;
-        filling.begin(mem::replace(block, Block::new(self.alloc)));
-        self.form = Form::Open(filling);
+        if self.filling.is_none() {
+            let mut filling = Box::new(self.alloc, Filling::new(self.alloc))?;
+            filling.reserve()?;
+            self.filling = Some(filling);
+        }
         Ok(())
     }
 
@@ -137,9 +138,9 @@ impl ElementStore {
         ensures err { OnErr result (self.new ≡ self.old) }
     {
         self.open()?;
-        match &mut self.form {
-            Form::Open(filling) => filling.add_geometry(profile, element, times),
-            Form::Closed(_) => Err(AllocError),
+        match &mut self.filling {
+            Some(filling) => filling.add_geometry(profile, element, times),
+            None => Err(AllocError),
         }
     }
 
@@ -162,9 +163,9 @@ impl ElementStore {
         ensures err { OnErr result (self.new ≡ self.old) }
     {
         self.open()?;
-        match &mut self.form {
-            Form::Open(filling) => filling.add_placement(cell, x, y, turns, flip, times),
-            Form::Closed(_) => Err(AllocError),
+        match &mut self.filling {
+            Some(filling) => filling.add_placement(cell, x, y, turns, flip, times),
+            None => Err(AllocError),
         }
     }
 
@@ -186,9 +187,9 @@ impl ElementStore {
         ensures err { OnErr result (self.new ≡ self.old) }
     {
         self.open()?;
-        match &mut self.form {
-            Form::Open(filling) => filling.add_text(string, textlayer, texttype, x, y, times),
-            Form::Closed(_) => Err(AllocError),
+        match &mut self.filling {
+            Some(filling) => filling.add_text(string, textlayer, texttype, x, y, times),
+            None => Err(AllocError),
         }
     }
 
@@ -196,9 +197,9 @@ impl ElementStore {
     pub(crate) fn settle(&mut self) -> Result<(), AllocError>
         ensures { self.new ≡ self.old }
     {
-        match &mut self.form {
-            Form::Open(filling) => filling.settle(),
-            Form::Closed(_) => Ok(()),
+        match &mut self.filling {
+            Some(filling) => filling.settle(),
+            None => Ok(()),
         }
     }
 
@@ -206,21 +207,21 @@ impl ElementStore {
     pub(crate) fn pause(&mut self)
         ensures { self.new ≡ self.old }
     {
-        if let Form::Open(filling) = &mut self.form {
+        if let Some(filling) = &mut self.filling {
             filling.pause();
         }
     }
 
-    /// Gives back memory that is idle as long as no element is added.
-    pub fn rest(&mut self)
-        ensures { self.new ≡ self.old }
+    /// Takes the keys out, ascending in one block, where they are few. Else, or if out of memory, it only gives back memory that
+    /// is idle as long as no element is added.
+    pub(crate) fn rest(&mut self) -> Option<Block>
+        ensures some { IfSome result (λ block. block ≡ self.old) }
+        ensures run { IfSome result (λ block. IsRun (slice_cmp nat_cmp) block) }
+        ensures none { IfNone result (self.new ≡ self.old) }
     {
-        let few = match &mut self.form {
-            Form::Open(filling) => filling.rest(),
-            Form::Closed(_) => None,
-        };
-        if let Some(block) = few {
-            self.form = Form::Closed(block);
+        match &mut self.filling {
+            Some(filling) => filling.rest(),
+            None => None,
         }
     }
 
@@ -229,10 +230,10 @@ impl ElementStore {
         ensures same { IfOk result (λ run. run ≡ self) }
         ensures run { IfOk result (λ run. IsRun (slice_cmp nat_cmp) run) }
     {
-        let ElementStore { form, .. } = self;
-        match form {
-            Form::Closed(block) => Ok(Run::of_block(block)),
-            Form::Open(filling) => Box::into_inner(filling).close(),
+        let ElementStore { alloc, filling } = self;
+        match filling {
+            Some(filling) => Box::into_inner(filling).close(),
+            None => Ok(Run::of_block(Block::new(alloc))),
         }
     }
 }

@@ -21,10 +21,11 @@
 //!   thing by a number, the sums over what is held and over what was drawn are equal. So the order of drawing, of keys or of
 //!   runs doesn't matter, and a draw is one equation of sums (proofs/DrawLemmas.antt). The profile by which elements are kept
 //!   is a type (src/profiles.rt), since a store is begun with its CELL alone.
-//! - src/elements.rt holds the keys of a cell in one of two forms (specs/Forms.antt). While elements are added they are in a
-//!   store of keys (src/filling.rt). Once a cell ends and has few, they are put in order, into one block of bytes, and all else
-//!   of the store is freed (`rest`): so a layout may have very many small cells. An element that is added later opens the store
-//!   again, of that block. A large cell keeps its store, and is put in order when it becomes a run.
+//! - src/held.rt holds what is drawn in a cell in one of two forms (specs/Held.antt). While more is drawn, its keys are in a
+//!   store of keys (src/elements.rt, src/filling.rt), and beside them is what waits. Once a cell ends and has few keys, and
+//!   nothing waits, these are put in order, into one block of bytes, and all else of the store is freed (`rest`): so a layout may
+//!   have very many small cells. What is drawn later opens the store again, of that block. Another cell keeps its store, and is
+//!   put in order when it becomes a run.
 //! - src/filling.rt puts a key into the store's own buffer, so that an element needs no memory of its own. Placements and
 //!   texts are the same in every profile, so theirs are put from their fields alone (`add_placement`, `add_text`), whether
 //!   they came with a name or waited for it.
@@ -48,6 +49,7 @@ mod cells;
 mod chunks;
 mod elements;
 mod filling;
+mod held;
 mod placing;
 mod profiles;
 mod ranking;
@@ -58,8 +60,8 @@ mod waiting;
 mod weighing;
 
 // The crates below, for those above.
-pub use cells::{CompactCell, ranks_for};
+pub use cells::CompactCell;
 pub use elements::ElementStore;
 pub use oas_keys::{SpelledElement, SpelledPoints, SpelledSteps, read_key};
 pub use profiles::{ByProfileOne, ByProfileTwo, KeptBy};
-pub use ranking::Ranks;
+pub use ranking::{Ranks, ranks_for};

@@ -1,6 +1,9 @@
 //! The order of names, so that what waits for them can be placed in the order of its keys. That order is for speed alone:
 //! nothing is promised of it, and a cell is the same in whatever order it is filled.
 
+use crate::cells::CompactCell;
+use crate::profiles::KeptBy;
+use crate::sorting::MANY;
 use oas_num::{Label, Name};
 use oas_reader::NameTable;
 use std::alloc::{AllocError, Global};
@@ -82,4 +85,32 @@ fn ranks_of<S: Ord>(alloc: Global, names: &[S], first: u32) -> Result<Vec<u32>, 
         rank = rank.saturating_add(1);
     }
     Ok(ranks)
+}
+
+/// How many names are worth their ranks, for each that waits for one.
+const NAMES: usize = 4;
+
+/// The ranks by which [`CompactCell::into_run`] is faster, where enough waits in some of these cells that they are worth their
+/// time; or out of memory.
+pub fn ranks_for<P: KeptBy>(
+    alloc: Global,
+    cells: &[CompactCell<P>],
+    names: &NameTable<Name>,
+    strings: &NameTable<Label>,
+) -> Result<Option<Ranks>, AllocError> {
+    let mut waiting = 0usize;
+    for cell in cells {
+        let count = cell.count_waiting();
+        if count >= MANY {
+            waiting = waiting.saturating_add(count);
+        }
+    }
+    let all = names
+        .in_order()
+        .len()
+        .saturating_add(strings.in_order().len());
+    if waiting == 0 || all / NAMES > waiting {
+        return Ok(None);
+    }
+    Ok(Some(Ranks::of(alloc, names, strings)?))
 }
