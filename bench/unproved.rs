@@ -123,6 +123,34 @@ mod proved {
             &self.0
         }
     }
+
+    static PAIRS: [u8; 200] = {
+        let mut pairs = [0; 200];
+        let mut pair = 0;
+        while pair < 100 {
+            pairs[2 * pair] = b'0' + pair as u8 / 10;
+            pairs[2 * pair + 1] = b'0' + pair as u8 % 10;
+            pair += 1;
+        }
+        pairs
+    };
+
+    /// In place of the function of that crate: as there, two digits at a time.
+    #[inline]
+    pub fn write_digits(number: u64, bytes: &mut [u8], end: usize) -> usize {
+        let (mut left, mut at) = (number as usize, end);
+        while left >= 10 {
+            let pair = left % 100;
+            bytes[at - 2..at].copy_from_slice(&PAIRS[2 * pair..2 * pair + 2]);
+            at -= 2;
+            left /= 100;
+        }
+        if left > 0 || at == end {
+            at -= 1;
+            bytes[at] = b'0' + left as u8;
+        }
+        at
+    }
 }
 
 use oas_bytes::{NotedWriter, ReaderSource};

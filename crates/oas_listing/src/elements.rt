@@ -8,7 +8,8 @@ ghost use Rattle.oas_layout.specs.Shown.{element_of};
 ghost use Rattle.oas_listing.specs.Lines.{spaced};
 ghost use Rattle.oas_listing.specs.Listing.{flip_count, element_fields, element_line};
 
-use crate::fields::{put_field, put_numbers, put_points, put_signed_numbers, put_start};
+use crate::fields::{put_field, put_points, put_start};
+use crate::numbers::Numbers;
 use oas_elements::Turns;
 use oas_layout::{ShownElement, ShownPoints};
 use oas_num::{Sink, SinkFault};
@@ -44,10 +45,12 @@ fn put_placement<K: Sink>(
     ensures { Writes K.given K.failures sink.old
         (spaced (element_fields (Placement cell.now x y turns flip))) result sink.new }
 {
+    let mut numbers = Numbers::new();
+    numbers.prepend_numbers(&[turn_number(turns), flip_number(flip)]);
+    numbers.prepend_signed_numbers(&[x, y]);
     sink.put_all(b"placement")?;
     put_field(sink, cell)?;
-    put_signed_numbers(sink, &[x, y])?;
-    put_numbers(sink, &[turn_number(turns), flip_number(flip)])
+    sink.put_all(numbers.as_slice())
 }
 
 /// Puts the kind of a text, and its fields.

@@ -26,15 +26,16 @@
 //! # How it is built
 //!
 //! oas_listing stands on oas_layout, whose cells, elements and points are each read from the keys as they are asked for, and
-//! uses the kit's `itoa`, which prints a number into a buffer on the stack. The clauses are about `listing`, a function of the
-//! layout's meaning.
+//! uses the kit's `itoa`, which finds the digits of a number from the last to the first. The clauses are about `listing`, a
+//! function of the layout's meaning.
 //!
 //! - specs/Lines.antt: fields with one space between neighbours, and a line of them. specs/Listing.antt: the fields of each
 //!   kind of element, and the listing; decimal text is std's `decimal` and `signed_decimal`. oas_num's specs/Written.antt
 //!   says what a writer took.
-//! - src/fields.rt: numbers and points after their spaces. elements.rt: a function for each kind that isn't numbers alone,
-//!   and the line of an element. cells.rt: elements, each as often as it is there, and cells. writing.rt: the listing, as
-//!   `Content` of oas_num, which writes it.
+//! - src/numbers.rt: numbers and a point after their spaces, put together from the last to the first on the stack, so that a
+//!   sink takes all of them at once. fields.rt: the start of a line, and points. elements.rt: a function for each kind that
+//!   isn't numbers alone, and the line of an element. cells.rt: elements, each as often as it is there, and cells.
+//!   writing.rt: the listing, as `Content` of oas_num, which writes it.
 //!
 //! How the proof goes. Each function puts into a `Sink` under the contract `Writes` and counts nothing, since
 //! `write_content` counts what the writer took. One record, `PutSoFar whole left` (oas_num, proofs/PuttingLemmas.antt), says that a prefix of
@@ -51,6 +52,7 @@ mod cells;
 mod elements;
 mod fields;
 pub mod laws;
+mod numbers;
 mod writing;
 
 // The crates below, for those above.

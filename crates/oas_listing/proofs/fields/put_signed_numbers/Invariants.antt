@@ -1,8 +1,0 @@
-use Rattle.std.proofs.Common.{◌∷◌, drop, flat_map}
-use Rattle.std.specs.Fmt.{signed_decimal}
-use Rattle.oas_num.proofs.PuttingLemmas.{PutSoFar}
-use Rattle.oas_listing.proofs.fields.put_signed_numbers.Given as goal
-
-abbrev pub invariant-loop-value : goal.invariant-loop-value
-invariant-loop-value g l =
-    PutSoFar g.K.Sink.given g.K.Sink.failures (flat_map (λ x. 32 ∷ signed_decimal x) l.values) (flat_map (λ x. 32 ∷ signed_decimal x) (drop l.value-index l.values)) l.fn.sink l.sink
