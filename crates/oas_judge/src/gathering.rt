@@ -92,6 +92,7 @@ fn pass_rectangle(
 /// The same of a placement or a text.
 #[inline(always)]
 fn pass_named<'a>(
+    alloc: Global,
     ahead: &'a [u8],
     room: Room,
     judge: &mut FileJudge,
@@ -121,7 +122,7 @@ fn pass_named<'a>(
     if !series.may_have(room, weight) {
         return false;
     }
-    if !judge.see_named(&found) {
+    if !judge.see_named(alloc, &found) {
         return false;
     }
     *series = series.with(weight, found.length);
@@ -188,6 +189,7 @@ pub(crate) fn gather_rectangles(
 /// The same of placements, or of texts.
 #[inline(always)]
 pub(crate) fn gather_named<'a>(
+    alloc: Global,
     ahead: &'a [u8],
     room: Room,
     judge: &mut FileJudge,
@@ -198,7 +200,7 @@ pub(crate) fn gather_named<'a>(
 {
     let mut series = Series::none();
     let mut last: Option<NamedOnce<'a>> = None;
-    'records: while pass_named(ahead, room, judge, &mut series, &mut last) {}
+    'records: while pass_named(alloc, ahead, room, judge, &mut series, &mut last) {}
     match last {
         Some(last) => Some((last, series)),
         None => None,
