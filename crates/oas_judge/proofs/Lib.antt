@@ -9,6 +9,7 @@ mod JudgeSteps
 mod RecordSteps
 mod FileLemmas
 pub mod NamedSteps
+mod LeastSteps
 mod FigureSteps
 mod JoinedLemmas
 mod GivenLemmas

@@ -3,12 +3,12 @@ use Rattle.std.proofs.Common.{◌≡◌, ℕ, Bool, true, false, List, [], ◌�
 use Rattle.std.proofs.lemmas.Int.{ints}
 use Rattle.std.specs.Prelude.{ℤ, pos, ◌+ℤ◌, cond}
 use Rattle.std.specs.Option.{option_or, option_to_list}
-use Rattle.std.specs.List.{list_all}
+use Rattle.std.specs.List.{list_all, AllByRecursion}
 use Rattle.oas_num.specs.declared.refusals.Why.{Why}
 use Rattle.oas_ring.specs.declared.point.Point.{Point}
 use Rattle.oas_shape.specs.declared.repetitions.RepField.{RepField}
 use Rattle.oas_shape.specs.Polylines.{Polyline, VerticesMay}
-use Rattle.oas_shape.specs.Steps.{still}
+use Rattle.oas_shape.specs.Steps.{still, IsInRange}
 use Rattle.oas_record.specs.declared.spots.Spot.{Spot}
 use Rattle.oas_record.specs.declared.references.CellRef.{CellRef}
 use Rattle.oas_record.specs.declared.references.CellRef.TheVariants as cell
@@ -30,7 +30,7 @@ use Rattle.oas_writing.specs.Values.{is_relative, extension_number, start_number
 use Rattle.oas_writing.specs.Modal.{ModalState, modal_of, moved_by, stepped}
 use Rattle.oas_writing.specs.Drawing.{point_from, drawn_at, repeats, placement_at, text_at, rectangle_at, polygon_at, path_at, circle_at, offsets_if, offsets_of, copies_at, elements_at}
 use Rattle.oas_elements.specs.Grid.{is_grid_point}
-use Rattle.oas_writing.proofs.Grids.{vertices_fault}
+use Rattle.oas_writing.proofs.Grids.{vertices_fault, all_on_grid}
 use Rattle.oas_writing.proofs.Steps.{modal_step}
 use Rattle.oas_writing.specs.Records.{element_record}
 use Rattle.oas_judge.specs.Own.{is_memory, own_drawn, point_if, point_given, drawn_there, placement_if, turn_given, rectangle_if, number_given, start_given, end_given}
@@ -58,6 +58,10 @@ there spot at h = there_by spot.x spot.y spot.repetition at h
 -- vertices that are refused, and not out of memory
 pub off_grid : (why : Why) (points : List Point) → VerticesMay why points → is_memory why ≡ false → list_all is_grid_point points ≡ false
 off_grid why points may not = elim (vertices_fault why points may) [ inl e ↦ (let no : ◌≡◌ {A = Bool} false true = sym not ∙ ap is_memory e in absurd cc) | inr p ↦ p.1 ]
+
+-- and those that are within the limits
+pub on_grid : (points : List Point) → AllByRecursion IsInRange points → list_all is_grid_point points ≡ true
+on_grid points near = all_on_grid points near
 
 lands_in : (relative : Bool) → relative ≡ false → {spot : Spot} {at : Point} → IsThere spot at → (before : Position) → point_from (moved_by relative before spot) still ≡ at
 lands_in relative absolute {spot = spot} t before = (λ i. point_from (moved_by (absolute i) before spot) still) ∙ t.lands before

@@ -6,6 +6,7 @@ use Rattle.oas_num.specs.Script.{Script}
 use Rattle.oas_record.specs.declared.heads.Head.{Head}
 use Rattle.oas_record.specs.declared.records.Record.{Record}
 use Rattle.oas_record.specs.Records.{id_of}
+use Rattle.oas_peek.specs.declared.figures.PeekedFigure.{PeekedFigure}
 use Rattle.oas_peek.specs.declared.named.Given.TheVariants.{Bytes}
 use Rattle.oas_peek.specs.declared.named.NamedOnce.{NamedOnce}
 use Rattle.oas_peek.specs.declared.named.NamedOnce.TheVariants as once
@@ -46,6 +47,10 @@ abbrev pub weight_given : NamedOnce → Option ℕ
 weight_given (once.Placement (Bytes name) quarters flip x y) = Some (1 + length name.now)
 weight_given (once.Text (Bytes string) textlayer texttype x y) = Some (1 + length string.now)
 weight_given _ = None
+
+-- the record of a polygon or a path at hand
+abbrev pub figure_record : PeekedFigure → Record
+figure_record ahead = ahead.record
 
 -- it has the id of the one before it, if there is one
 abbrev pub IsLike : Option Record → Record → Type 0

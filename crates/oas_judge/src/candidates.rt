@@ -1,7 +1,8 @@
 //! What a record may be in a canonical file, from the record alone.
-ghost use Rattle.std.specs.Prelude.{◌↔◌, IsTrue, IfOk};
+ghost use Rattle.std.specs.Prelude.{◌≡◌, ◌↔◌, true, IsTrue, IfOk};
 ghost use Rattle.oas_record.specs.declared.records.Record.TheVariants.{Cell as OneCell};
 ghost use Rattle.oas_elements.specs.declared.profile.Profile.{Profile as OneProfile};
+ghost use Rattle.oas_elements.specs.Grid.{points_fit};
 ghost use Rattle.oas_judge.specs.Candidates.{IsCandidate, IsFitting, IsKeptFit, IsDrawable, IsShort};
 
 use crate::own::own_element;
@@ -37,6 +38,15 @@ pub(crate) fn is_drawable(element: &Element) -> bool
     ensures { IsTrue result ↔ IsDrawable element.now }
 {
     !element.lacks_points() && element.fits_grid() && element.weight() <= HEAVIEST
+}
+
+/// The same where its points are known to be within the grid.
+#[inline(always)]
+pub(crate) fn is_drawable_figure(element: &Element) -> bool
+    requires { points_fit element.now ≡ true }
+    ensures { IsTrue result ↔ IsDrawable element.now }
+{
+    !element.lacks_points() && element.fits_beside_points() && element.weight() <= HEAVIEST
 }
 
 /// A CELL, where it is by a name.

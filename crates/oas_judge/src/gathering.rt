@@ -4,11 +4,11 @@ ghost use Rattle.std.specs.Option.{option_map};
 ghost use Rattle.oas_record.specs.declared.records.Record.TheVariants.{Rectangle as OneRectangle};
 ghost use Rattle.oas_peek.specs.Named.{HasValidName, named_record};
 ghost use Rattle.oas_judge.specs.declared.judge.FileJudge.{FileJudge as TheJudge};
-ghost use Rattle.oas_judge.specs.Series.{weight_given, IsLike, EndsSeries, SeriesSoFar};
+ghost use Rattle.oas_judge.specs.Series.{weight_given, figure_record, IsLike, EndsSeries, SeriesSoFar};
 
 use crate::judge::FileJudge;
 use crate::series::Series;
-use oas_peek::{Given, NamedOnce, peek_figure, peek_full_rectangle, peek_named};
+use oas_peek::{Given, NamedOnce, PeekedFigure, peek_figure, peek_full_rectangle, peek_named};
 use oas_record::{Record, Rectangle};
 use oas_writing::Room;
 use std::alloc::Global;
@@ -45,13 +45,15 @@ fn is_like_named(last: &Option<NamedOnce<'_>>, next: &NamedOnce<'_>) -> bool
 
 /// Whether both are polygons, or both are paths, if there is one before.
 #[inline(always)]
-fn is_like_figure(last: &Option<Record>, next: &Record) -> bool
-    ensures { result ≡ true → IsLike last.now next.now }
+fn is_like_figure(last: &Option<PeekedFigure>, next: &Record) -> bool
+    ensures { result ≡ true → IsLike (option_map figure_record last.now) next.now }
 {
-    match last {
-        None => true,
-        Some(Record::Polygon(_)) => matches!(next, Record::Polygon(_)),
-        Some(Record::Path(_)) => matches!(next, Record::Path(_)),
+    let Some(last) = last else {
+        return true;
+    };
+    match &last.record {
+        Record::Polygon(_) => matches!(next, Record::Polygon(_)),
+        Record::Path(_) => matches!(next, Record::Path(_)),
         _ => false,
     }
 }
@@ -92,6 +94,7 @@ fn pass_rectangle(
 /// The same of a placement or a text.
 #[inline(always)]
 fn pass_named<'a>(
+    alloc: Global,
     ahead: &'a [u8],
     room: Room,
     judge: &mut FileJudge,
@@ -121,7 +124,7 @@ fn pass_named<'a>(
     if !series.may_have(room, weight) {
         return false;
     }
-    if !judge.see_named(&found) {
+    if !judge.see_named(alloc, &found) {
         return false;
     }
     *series = series.with(weight, found.length);
@@ -137,10 +140,10 @@ fn pass_figure(
     room: Room,
     judge: &mut FileJudge,
     series: &mut Series,
-    last: &mut Option<Record>,
+    last: &mut Option<PeekedFigure>,
 ) -> bool
     requires { series.old.weight ≤ room.weight }
-    ensures more { (first : TheJudge) → SeriesSoFar ahead.now room.elements room.weight first last.old series.old judge.old → SeriesSoFar ahead.now room.elements room.weight first last.new series.new judge.new }
+    ensures more { (first : TheJudge) → SeriesSoFar ahead.now room.elements room.weight first (option_map figure_record last.old) series.old judge.old → SeriesSoFar ahead.now room.elements room.weight first (option_map figure_record last.new) series.new judge.new }
     ensures longer { result ≡ true → series.old.length < series.new.length }
 {
     if series.length >= ahead.len() {
@@ -149,7 +152,9 @@ fn pass_figure(
     if !judge.holds() {
         return false;
     }
-    let Some(found) = peek_figure(alloc, series.behind(ahead)) else {
+    // It is moved once, as a whole.
+    let next = peek_figure(alloc, series.behind(ahead));
+    let Some(found) = &next else {
         return false;
     };
     if !is_like_figure(last, &found.record) {
@@ -158,11 +163,11 @@ fn pass_figure(
     if !series.may_have(room, 0) {
         return false;
     }
-    let Some(weight) = judge.see_figure(alloc, &found, room.weight - series.weight) else {
+    let Some(weight) = judge.see_figure(alloc, found, room.weight - series.weight) else {
         return false;
     };
     *series = series.with(weight, found.length);
-    *last = Some(found.record);
+    *last = next;
     true
 }
 
@@ -188,6 +193,7 @@ pub(crate) fn gather_rectangles(
 /// The same of placements, or of texts.
 #[inline(always)]
 pub(crate) fn gather_named<'a>(
+    alloc: Global,
     ahead: &'a [u8],
     room: Room,
     judge: &mut FileJudge,
@@ -198,7 +204,7 @@ pub(crate) fn gather_named<'a>(
 {
     let mut series = Series::none();
     let mut last: Option<NamedOnce<'a>> = None;
-    'records: while pass_named(ahead, room, judge, &mut series, &mut last) {}
+    'records: while pass_named(alloc, ahead, room, judge, &mut series, &mut last) {}
     match last {
         Some(last) => Some((last, series)),
         None => None,
@@ -217,10 +223,10 @@ pub(crate) fn gather_figures(
     ensures none { result ≡ None → judge.new ≡ judge.old }
 {
     let mut series = Series::none();
-    let mut last: Option<Record> = None;
+    let mut last: Option<PeekedFigure> = None;
     'records: while pass_figure(alloc, ahead, room, judge, &mut series, &mut last) {}
     match last {
-        Some(last) => Some((last, series)),
+        Some(last) => Some((last.record, series)),
         None => None,
     }
 }

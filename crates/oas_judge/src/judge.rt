@@ -173,15 +173,15 @@ impl FileJudge {
         true
     }
 
-    /// The same of a placement or a text.
+    /// The same of a placement or a text. It returns false also if out of memory.
     #[inline(always)]
-    pub(crate) fn see_named(&mut self, ahead: &PeekedNamed<'_>) -> bool
+    pub(crate) fn see_named(&mut self, alloc: Global, ahead: &PeekedNamed<'_>) -> bool
         requires named { HasValidName ahead.now.element }
         requires told { IsTrue (holds self.old) }
         ensures no { result ≡ false → self.new ≡ self.old }
         ensures yes { result ≡ true → (all : List ℕ) → IsPeekedNamed all ahead.now → SeesElement (take ahead.now.length all) self.old (named_record ahead.now.element) self.new }
     {
-        ahead.shortest && draw_named(&mut self.form, &ahead.element)
+        ahead.shortest && draw_named(alloc, &mut self.form, &ahead.element)
     }
 
     /// The same of a polygon or a path that weighs at most so much. It returns the weight; None, and does nothing, also if out
@@ -221,9 +221,9 @@ impl FileJudge {
     }
 
     /// Judges a placement or a text that is at hand, if it is accepted. It returns false, and does nothing, where it would
-    /// have to compare the bytes with the canonical ones.
+    /// have to compare the bytes with the canonical ones, or if out of memory.
     #[inline(always)]
-    pub(crate) fn judge_named(&mut self, ahead: &PeekedNamed<'_>) -> bool
+    pub(crate) fn judge_named(&mut self, alloc: Global, ahead: &PeekedNamed<'_>) -> bool
         requires { HasValidName ahead.now.element }
         ensures no { result ≡ false → self.new ≡ self.old }
         ensures yes { result ≡ true → (all : List ℕ) → IsPeekedNamed all ahead.now → GoesOnTaking (take ahead.now.length all) self.old (named_record ahead.now.element) self.new }
@@ -231,7 +231,7 @@ impl FileJudge {
         if !self.holds() {
             return true;
         }
-        self.see_named(ahead)
+        self.see_named(alloc, ahead)
     }
 
     /// Judges a polygon or a path that is at hand, if it is accepted. It returns false, and does nothing, where it would have

@@ -37,10 +37,11 @@
 //! - src/records.rt: a record at hand. It is read from the slice of what the source has at hand (`ahead` of oas_bytes), judged
 //!   by the bytes there, and then as many are taken (`skip`): so none is copied. A rectangle that gives all its fields goes
 //!   first, in code without calls; for the others the id says which way to try. An element that is spelled in the shortest
-//!   style has the canonical bytes, by a law of oas_form, and none is compared: a rectangle, a placement or a text that follows
-//!   an element of its kind (src/named.rt), or a polygon or a path that the profile keeps unchanged (src/figures.rt;
-//!   proofs/FigureSteps.antt: the steps between the vertices of a plain list are that list). Every other record is found by
-//!   `find_record` of oas_file, and compared.
+//!   style has the canonical bytes, by a law of oas_form, and none is compared: a rectangle, a placement or a text (src/named.rt:
+//!   where it follows an element of its kind, in the memory of that one), or a polygon or a path that the profile keeps
+//!   unchanged (src/figures.rt; proofs/FigureSteps.antt: the steps between the vertices of a plain list are that list). Most
+//!   polygons of a canonical file are plainly in their least reading: their first point is below all others, and their second
+//!   below the last (proofs/LeastSteps.antt). Every other record is found by `find_record` of oas_file, and compared.
 //! - src/series.rt, gathering.rt, specs/Series.antt: a series, which is elements of one kind at hand one after another, each spelled in
 //!   the shortest style. The judge sees them one by one, while the reader, where it keeps no element, takes them at once at the
 //!   end, and the source skips once. A series ends before any record that isn't like that, or for which there is no room, so every

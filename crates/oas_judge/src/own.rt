@@ -1,9 +1,11 @@
 //! The element that a record gives by its own fields, with no modal variable.
 
-ghost use Rattle.std.specs.Prelude.{◌≡◌, IfSome, IfOk};
+ghost use Rattle.std.specs.Prelude.{◌≡◌, true, Some, IfSome, IfOk};
+ghost use Rattle.std.specs.List.{list_all};
 ghost use Rattle.oas_shape.specs.Polylines.{vertices_of};
-ghost use Rattle.oas_elements.specs.Grid.{is_grid_point};
+ghost use Rattle.oas_elements.specs.Grid.{is_grid_point, points_fit};
 ghost use Rattle.oas_record.specs.declared.records.Record.{Record as OneRecord};
+ghost use Rattle.oas_writing.specs.Drawn.TheVariants.{Named};
 ghost use Rattle.oas_writing.specs.Records.{element_record};
 ghost use Rattle.oas_judge.specs.Own.{AreVertices, ArePair, is_memory, IsOwn, own_drawn, point_given, turn_given, number_given, start_given, end_given};
 
@@ -165,10 +167,11 @@ fn is_memory(why: Why) -> bool
 }
 
 /// The vertices of a point list that begins there; None where one of them is outside the grid.
-#[tactic(auto, using(crate::proofs::OwnLemmas::off_grid))]
+#[tactic(auto, using(crate::proofs::OwnLemmas::off_grid, crate::proofs::OwnLemmas::on_grid))]
 #[inline]
 fn vertices(alloc: Global, points: &PointList, at: Point) -> Result<Option<Points>, AllocError>
-    ensures { IfOk result (λ own. AreVertices own (vertices_of points.now at)) }
+    ensures own { IfOk result (λ own. AreVertices own (vertices_of points.now at)) }
+    ensures inside { IfOk result (λ own. IfSome own (λ points. list_all is_grid_point points ≡ true)) }
 {
     if !is_on_grid(at) {
         return Ok(None);
@@ -186,7 +189,8 @@ fn vertices(alloc: Global, points: &PointList, at: Point) -> Result<Option<Point
 /// A polygon.
 #[inline]
 fn own_polygon(alloc: Global, drawn: &Polygon) -> Result<Option<Element>, AllocError>
-    ensures { IfOk result (λ own. IsOwn own (own_drawn (OneRecord.Polygon drawn.now))) }
+    ensures own { IfOk result (λ own. IsOwn own (own_drawn (OneRecord.Polygon drawn.now))) }
+    ensures inside { IfOk result (λ own. IfSome own (λ e. points_fit e ≡ true)) }
 {
     let Some(at) = point_given(&drawn.spot) else {
         return Ok(None);
@@ -217,7 +221,8 @@ fn extensions_given(extensions: Option<Extensions>) -> Option<(i64, i64)>
 
 /// A path that gives both extensions as numbers.
 fn own_path(alloc: Global, drawn: &Path) -> Result<Option<Element>, AllocError>
-    ensures { IfOk result (λ own. IsOwn own (own_drawn (OneRecord.Path drawn.now))) }
+    ensures own { IfOk result (λ own. IsOwn own (own_drawn (OneRecord.Path drawn.now))) }
+    ensures inside { IfOk result (λ own. IfSome own (λ e. points_fit e ≡ true)) }
 {
     let Some(at) = point_given(&drawn.spot) else {
         return Ok(None);
@@ -259,6 +264,19 @@ pub(crate) fn own_element(alloc: Global, next: &Record) -> Result<Option<Element
         Record::Polygon(drawn) => own_polygon(alloc, drawn),
         Record::Path(drawn) => own_path(alloc, drawn),
         Record::Circle(drawn) => Ok(own_circle(drawn)),
+        _ => Ok(None),
+    }
+}
+
+/// The same of a polygon or a path, and its points are within the grid; None for any other record.
+#[inline(always)]
+pub(crate) fn own_figure(alloc: Global, next: &Record) -> Result<Option<Element>, AllocError>
+    ensures own { IfOk result (λ own. IfSome own (λ e. own_drawn next.now ≡ Some (Named e))) }
+    ensures inside { IfOk result (λ own. IfSome own (λ e. points_fit e ≡ true)) }
+{
+    match next {
+        Record::Polygon(drawn) => own_polygon(alloc, drawn),
+        Record::Path(drawn) => own_path(alloc, drawn),
         _ => Ok(None),
     }
 }

@@ -79,6 +79,7 @@ fn next_rectangle<S: Source, C: CellStore>(
 /// false where it does nothing.
 #[inline(never)]
 fn next_named<S: Source, C: CellStore>(
+    alloc: Global,
     source: &mut S,
     head: &Head,
     at: u64,
@@ -91,7 +92,7 @@ fn next_named<S: Source, C: CellStore>(
     let Some(found) = peek_named(source.ahead()) else {
         return Ok(false);
     };
-    if !judge.judge_named(&found) {
+    if !judge.judge_named(alloc, &found) {
         return Ok(false);
     }
     let length = found.length;
@@ -191,7 +192,7 @@ fn next_of_kind<S: Source, C: CellStore>(
 {
     match kind_at_hand(source.ahead()) {
         KindAtHand::Rectangle => next_rectangle(source, head, at, reader, judge),
-        KindAtHand::Named => next_named(source, head, at, reader, judge),
+        KindAtHand::Named => next_named(alloc, source, head, at, reader, judge),
         KindAtHand::Figure => next_figure(alloc, source, head, at, reader, judge),
         KindAtHand::Other => Ok(false),
     }

@@ -100,6 +100,7 @@ fn series_of_rectangles<S: Source, C: CellStore>(
 /// The same of placements, or of texts.
 #[inline(never)]
 fn series_of_named<S: Source, C: CellStore>(
+    alloc: Global,
     source: &mut S,
     head: &Head,
     reader: &mut Reader<C>,
@@ -110,7 +111,7 @@ fn series_of_named<S: Source, C: CellStore>(
     let Some(room) = reader.room() else {
         return Ok(None);
     };
-    let Some((last, series)) = gather_named(source.ahead(), room, judge) else {
+    let Some((last, series)) = gather_named(alloc, source.ahead(), room, judge) else {
         return Ok(None);
     };
     // It can't be as large as that: the offset behind it is one too.
@@ -163,7 +164,7 @@ pub(crate) fn next_series<S: Source, C: CellStore>(
     }
     match kind_at_hand(source.ahead()) {
         KindAtHand::Rectangle => series_of_rectangles(source, head, reader, judge),
-        KindAtHand::Named => series_of_named(source, head, reader, judge),
+        KindAtHand::Named => series_of_named(alloc, source, head, reader, judge),
         KindAtHand::Figure => series_of_figures(alloc, source, head, reader, judge),
         KindAtHand::Other => Ok(None),
     }
