@@ -7,6 +7,7 @@ pub mod NameLemmas
 pub mod ReferenceLemmas
 pub mod WeightLemmas
 pub mod UsedLemmas
+pub mod UsedTables
 pub mod HeldLemmas
 pub mod Twice
 pub mod InOrder

@@ -12,7 +12,7 @@ use Rattle.oas_elements.specs.Laws.BagLaws.{total, total-put_more, insert_entry-
 use Rattle.oas_reader.specs.Weights.{AllUsed}
 
 -- numbers that compare as equal are equal
-exact_nat : (k x : ℕ) → nat_cmp k x ≡ Equal → x ≡ k
+pub exact_nat : (k x : ℕ) → nat_cmp k x ≡ Equal → x ≡ k
 exact_nat k x e = sym (exact_unsigned k x e)
 
 -- how often one number is used is no more than how often all are

@@ -94,6 +94,21 @@ names_begin names ps qs e = record { exact = refl; joins = by ps ∙ ap (names_w
   by [] = refl
   by (p ∷ rs) = joined_none (name_weight (name_of names p.0) p.1) (names_weight names rs)
 
+min_of_small : (m a : ℕ) → a < m + 1 → min a m ≡ a
+min_of_small m a h = grind arith
+
+min_fits : (m a : ℕ) → min a m ≡ a → a < m + 1
+min_fits m a e = grind arith
+
+pub capped_fits : (a : ℕ) → capped a ≡ a → a < 2 ^ 64
+capped_fits a e = min_fits (2 ^ 64 - 1) a e
+
+-- some are added already
+pub names_after : (names : List (ℕ × List ℕ)) (now : ℕ) (ps qs : List (ℕ × ℕ)) (whole : Option ℕ) → now < 2 ^ 64 → ps ≡ qs → joined (Some now) (names_weight names qs) ≡ whole
+    → Adding now (names_weight names ps) whole
+names_after names now ps qs whole h e is =
+    record { exact = min_of_small (2 ^ 64 - 1) now h; joins = ap (λ (rs : List (ℕ × ℕ)). joined (Some now) (names_weight names rs)) e ∙ is }
+
 -- one more
 pub adding_more : (now more sum : ℕ) (one rest whole : Option ℕ) → Adding now (joined one rest) whole → one ≡ Some more → sum ≡ capped (now + more) → Adding sum rest whole
 adding_more now more sum one rest whole h is e =

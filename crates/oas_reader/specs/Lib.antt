@@ -17,6 +17,7 @@ pub mod NamesInOrder
 pub mod References
 pub mod Meaning
 pub mod Weights
+pub mod Used
 pub mod Held
 pub mod Finish
 pub mod Alike

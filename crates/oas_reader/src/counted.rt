@@ -46,7 +46,8 @@ impl CountedCell {
     /// Counts something this many times, and the uses of its number, if it has one. If out of memory nothing is counted.
     #[inline]
     fn count_times(&mut self, tally: Tally, times: u64) -> Result<(), AllocError>
-        requires { self.old.count + times < 2 ^ 64 }
+        requires some { 0 < times }
+        requires room { self.old.count + times < 2 ^ 64 }
         ensures ok { OnOk result (self.new ≡ counted_more self.old tally times) }
         ensures err { OnErr result (self.new ≡ self.old) }
     {

@@ -76,10 +76,10 @@
 //!   (`Draws`), which composes (`draws_then`, proofs/StoreLemmas.antt). A reader's stores correspond to the cells of the
 //!   records one by one (`HoldCells`).
 //! - src/counted.rt: `CountedCell`, a store that keeps no element: how many are drawn, their weight as long as numbers have
-//!   no names, and how often each number is placed, and written (src/used.rt). It represents all lists with that weight in
-//!   which, whatever each number counts for, the sums are equal (`CountsThese`, specs/Counted.antt). So one relation says
-//!   both whether a number lacks a name (it counts one) and the weight of the names (it counts the name's bytes):
-//!   `counted_known`, proofs/WeighLemmas.antt.
+//!   no names, and how often each number is placed, and written (src/used.rt; those counted in a table: `with_table`,
+//!   specs/Used.antt). It represents all lists with that weight in which, whatever each number counts for, the sums are equal
+//!   (`CountsThese`, specs/Counted.antt). So one relation says both whether a number lacks a name (it counts one) and the
+//!   weight of the names (it counts the name's bytes): `counted_known`, proofs/WeighLemmas.antt.
 //! - src/reader.rt: `Reader`, over any stores. parts.rt is what it keeps, taking.rt a function for each kind of record,
 //!   copying.rt the copies of an element record, place by place: a store draws each (`CellStore::draw_copy`), and a counted
 //!   cell only asks what it counts for (`ModalVariables::tally`). `Reader::take_rectangle` is a faster way to the same clauses
