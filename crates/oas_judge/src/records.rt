@@ -57,9 +57,9 @@ fn next_full_rectangle<S: Source, C: CellStore>(
     }
 }
 
-/// The same of any rectangle without a repetition.
+/// The same of a rectangle without a repetition that may leave out fields.
 #[inline(never)]
-fn next_rectangle<S: Source, C: CellStore>(
+fn next_partial_rectangle<S: Source, C: CellStore>(
     source: &mut S,
     head: &Head,
     at: u64,
@@ -73,6 +73,24 @@ fn next_rectangle<S: Source, C: CellStore>(
         Some(found) => take_found(source, at, found, reader, judge),
         None => Ok(false),
     }
+}
+
+/// The same of any rectangle without a repetition.
+#[inline(always)]
+fn next_rectangle<S: Source, C: CellStore>(
+    source: &mut S,
+    head: &Head,
+    at: u64,
+    reader: &mut Reader<C>,
+    judge: &mut FileJudge,
+) -> Result<bool, Refusal>
+    requires { at ≡ (S.script source.old).given }
+    ensures { JudgesAtHand C.store head.now (S.script source.old) reader.old judge.old result (S.script source.new) reader.new judge.new }
+{
+    if next_full_rectangle(source, head, at, reader, judge)? {
+        return Ok(true);
+    }
+    next_partial_rectangle(source, head, at, reader, judge)
 }
 
 /// Gives the reader, and shows the judge, a placement or a text that is at hand, where the judge can decide at once. Returns
@@ -156,28 +174,8 @@ fn next_record<S: Source, C: CellStore>(
     Ok(true)
 }
 
-/// Gives the reader, and shows the judge, the next record, where it is at hand. Returns false where it does nothing.
-///
-/// An element that is spelled in the shortest style is judged by its fields, and none of its bytes is compared.
-#[inline(always)]
-pub(crate) fn next_at_hand<S: Source, C: CellStore>(
-    alloc: Global,
-    source: &mut S,
-    head: &Head,
-    at: u64,
-    reader: &mut Reader<C>,
-    judge: &mut FileJudge,
-) -> Result<bool, Refusal>
-    requires { at ≡ (S.script source.old).given }
-    ensures { JudgesAtHand C.store head.now (S.script source.old) reader.old judge.old result (S.script source.new) reader.new judge.new }
-{
-    if next_full_rectangle(source, head, at, reader, judge)? {
-        return Ok(true);
-    }
-    next_other(alloc, source, head, at, reader, judge)
-}
-
-/// The same of an element of any kind but a circle, by the faster way of its kind.
+/// Gives the reader, and shows the judge, an element of any kind but a circle, by the faster way of its kind. Returns false where it
+/// does nothing.
 #[inline(always)]
 fn next_of_kind<S: Source, C: CellStore>(
     alloc: Global,
@@ -198,9 +196,11 @@ fn next_of_kind<S: Source, C: CellStore>(
     }
 }
 
-/// The same of any record.
-#[inline(never)]
-fn next_other<S: Source, C: CellStore>(
+/// Gives the reader, and shows the judge, the next record, where it is at hand. Returns false where it does nothing.
+///
+/// An element that is spelled in the shortest style is judged by its fields, and none of its bytes is compared.
+#[inline(always)]
+pub(crate) fn next_at_hand<S: Source, C: CellStore>(
     alloc: Global,
     source: &mut S,
     head: &Head,
