@@ -76,12 +76,25 @@ fn insist(store: &mut KeyStore, key: &[u8]) -> Result<(), AllocError>
     }
 }
 
-/// A store of the numbers in an order, four bytes each.
-fn filled(alloc: Global, order: Order) -> Result<KeyStore, AllocError> {
+/// Adds a key once, and has the store put all that it has into runs where it `settles` behind it.
+fn put(store: &mut KeyStore, key: &[u8], settles: bool) -> Result<(), AllocError>
+    requires { count_at (slice_cmp nat_cmp) store.old key.now + 1 < 2 ^ 64 }
+    ensures { OnOk result (store.new ≡ put_more (slice_cmp nat_cmp) store.old key.now 1) }
+{
+    insist(store, key)?;
+    if settles {
+        store.settle()?;
+    }
+    Ok(())
+}
+
+/// A store of the numbers in an order, four bytes each. It settles behind each number whose place is a multiple of `every`, if that
+/// isn't 0.
+fn filled(alloc: Global, order: Order, every: u32) -> Result<KeyStore, AllocError> {
     let mut store = KeyStore::new(alloc);
     for k in 0..order.count() {
         let key = order.number(k).to_be_bytes();
-        insist(&mut store, &key)?;
+        put(&mut store, &key, every > 0 && k % every == 0)?;
     }
     Ok(store)
 }
@@ -111,7 +124,7 @@ fn numbers_of(run: &Run, times: u64) -> Result<u32, u32> {
 
 /// The same, for the numbers in an order.
 fn numbers(alloc: Global, order: Order, times: u64) -> Result<Result<u32, u32>, AllocError> {
-    let run = closed(filled(alloc, order)?)?;
+    let run = closed(filled(alloc, order, 0)?)?;
     Ok(numbers_of(&run, times))
 }
 
@@ -169,4 +182,23 @@ const BLOCKS_OF_KEYS: &[(Order, u32, u64)] = &[
 #[test]
 fn a_block_of_keys_rises_or_waits(rt: HostRuntime) -> Result<(), AllocError> {
     assert_numbers(&rt, rt.alloc(), BLOCKS_OF_KEYS)
+}
+
+/// Asserts that the numbers in an order come out of the many runs of a store that settles behind each of so many.
+fn assert_settled(
+    rt: &impl Abort,
+    alloc: Global,
+    order: Order,
+    every: u32,
+    found: (u32, u64),
+) -> Result<(), AllocError> {
+    let run = closed(filled(alloc, order, every)?)?;
+    assert!(rt; numbers_of(&run, found.1) == Ok(found.0), "{order:?}");
+    Ok(())
+}
+
+#[test]
+fn many_runs_become_one(rt: HostRuntime) -> Result<(), AllocError> {
+    assert_settled(&rt, rt.alloc(), Order::Scattered, 2_000, (100_000, 1))?;
+    assert_settled(&rt, rt.alloc(), Order::Sawtooth, 1_000, (25_000, 4))
 }

@@ -10,6 +10,6 @@ pub loop-k-preserved : goal.loop-k-preserved
 loop-k-preserved c = λ q. omega (
   arith,
   c.loop-k.invariant q,
-  ap {B = ℕ} (λ (es : List Entry). count_at (slice_cmp nat_cmp) es q) c.in_ok-insist.ensures,
+  ap {B = ℕ} (λ (es : List Entry). count_at (slice_cmp nat_cmp) es q) c.in_ok-put.ensures,
   count_at-more (slice_cmp nat_cmp) c.loop-k.store c.to_be_bytes-key.result 1 q,
 )
