@@ -39,8 +39,9 @@ fn take_found<S: Source, C: CellStore>(
 /// Gives the reader, and shows the judge, a rectangle that is at hand and gives all its fields, where the judge can decide at
 /// once. Returns false where it does nothing.
 ///
-/// All of it is inlined, so that no field is tested for being there, and none is moved.
-#[inline(always)]
+/// All that it calls is inlined, so that no field is tested for being there, and none is moved. It is a function of its own, since a
+/// call begins by clearing room for all of that, which no other record needs.
+#[inline(never)]
 fn next_full_rectangle<S: Source, C: CellStore>(
     source: &mut S,
     head: &Head,
