@@ -9,7 +9,7 @@ ghost use Rattle.oas_reader.specs.Laws.StoreLaws.{counted_in_any_order};
 use crate::meant::head_weight;
 use crate::names::NameTable;
 use crate::stores::{CellStore, Weighed};
-use crate::used::{UsedNumbers, cells_weight, strings_weight};
+use crate::used::UsedNumbers;
 use oas_drawing::{Drawn, DrawnOnce, Kind, ModalVariables, Tally, UsedNumber};
 use oas_num::{Label, Name, Why};
 use oas_record::{CellRef, TextRef};
@@ -90,8 +90,8 @@ impl CountedCell {
         ensures { result ≡ counted_weight names.now.named strings.now.named self.now }
     {
         let head = head_weight(&self.cell, names)?;
-        let placed = cells_weight(&self.placed, names)?;
-        let written = strings_weight(&self.written, strings)?;
+        let placed = self.placed.cells_weight(names)?;
+        let written = self.written.strings_weight(strings)?;
         let drawn = self.weight.saturating_add(placed.saturating_add(written));
         Some(head.saturating_add(drawn))
     }

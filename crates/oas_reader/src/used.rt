@@ -20,17 +20,91 @@ const TABLED: usize = 1024;
 /// From so many other numbers on there is one, so that few cells need memory for it.
 const MANY: usize = 64;
 
-/// How often each number of a name is used.
+/// How often each number of a name is used; contracts see the list of these with counts. In many cells none is, which takes no memory
+/// beside a pointer.
+#[derive(Drop)]
+pub(crate) struct UsedNumbers {
+    alloc: Global,
+    counts: Option<Box<Counts>>,
+}
+
+impl Model for UsedNumbers {
+    ghost use Rattle.std.specs.Prelude.{ℕ, List, []};
+    ghost use Rattle.std.specs.Option.{option_map_or};
+
+    ghost Value = { List (ℕ × ℕ) };
+
+    ghost view = { λ a. option_map_or (λ c. c.value) a.counts [] };
+}
+
+impl UsedNumbers {
+    /// No number is used.
+    pub(crate) fn new(alloc: Global) -> UsedNumbers
+        ensures { result ≡ [] }
+    {
+        UsedNumbers {
+            alloc,
+            counts: None,
+        }
+    }
+
+    /// Takes the memory in which uses are counted. If out of memory it changes nothing.
+    fn open(&mut self) -> Result<(), AllocError>
+        ensures { self.new ≡ self.old }
+    {
+        if self.counts.is_none() {
+            self.counts = Some(Box::new(self.alloc, Counts::new(self.alloc))?);
+        }
+        Ok(())
+    }
+
+    /// Uses a number this many more times. If out of memory nothing changes.
+    #[inline]
+    pub(crate) fn add(&mut self, number: u64, times: u64) -> Result<(), AllocError>
+        requires some { 0 < times }
+        requires few { total (λ _. 1) self.old + times < 2 ^ 64 }
+        ensures ok { OnOk result (self.new ≡ put_more nat_cmp self.old number times) }
+        ensures err { OnErr result (self.new ≡ self.old) }
+    {
+        self.open()?;
+        match &mut self.counts {
+            Some(counts) => counts.add(number, times),
+            None => Err(AllocError),
+        }
+    }
+
+    /// The bytes of the names of cells that are placed by number.
+    pub(crate) fn cells_weight(&self, names: &NameTable<Name>) -> Option<u64>
+        ensures { result ≡ names_weight names.now.named self.now }
+    {
+        match &self.counts {
+            Some(counts) => counts.cells_weight(names),
+            None => Some(0),
+        }
+    }
+
+    /// The bytes of the text strings that are written by number.
+    pub(crate) fn strings_weight(&self, strings: &NameTable<Label>) -> Option<u64>
+        ensures { result ≡ names_weight strings.now.named self.now }
+    {
+        match &self.counts {
+            Some(counts) => counts.strings_weight(strings),
+            None => Some(0),
+        }
+    }
+}
+
+/// How often each of some numbers is used.
 ///
 /// Where many are, the lowest ones are counted in a table, where none is searched for. All others are in a map, which is ordered,
 /// so that no choice of numbers makes it slow. A number that is in both is used as often as both say.
 #[derive(Drop)]
-pub(crate) struct UsedNumbers {
+struct Counts {
     table: Vec<u64>,
     others: BTreeMap<u64, u64>,
 }
 
-impl Model for UsedNumbers {
+impl Model for Counts {
     ghost use Rattle.std.specs.Prelude.{ℕ, List};
     ghost use Rattle.std.specs.List.Sorted.{IsStrictlySortedBy};
     ghost use Rattle.std.specs.Map.{keys_of};
@@ -44,12 +118,12 @@ impl Model for UsedNumbers {
     ghost invariant = { λ a. IsStrictlySortedBy nat_cmp (keys_of a.others.entries) };
 }
 
-impl UsedNumbers {
+impl Counts {
     /// No number is used.
-    pub(crate) fn new(alloc: Global) -> UsedNumbers
+    fn new(alloc: Global) -> Counts
         ensures { result ≡ [] }
     {
-        UsedNumbers {
+        Counts {
             table: Vec::new(alloc),
             others: BTreeMap::new(alloc),
         }
@@ -57,7 +131,7 @@ impl UsedNumbers {
 
     /// Uses a number this many more times. If out of memory nothing changes.
     #[inline]
-    pub(crate) fn add(&mut self, number: u64, times: u64) -> Result<(), AllocError>
+    fn add(&mut self, number: u64, times: u64) -> Result<(), AllocError>
         requires some { 0 < times }
         requires few { total (λ _. 1) self.old + times < 2 ^ 64 }
         ensures ok { OnOk result (self.new ≡ put_more nat_cmp self.old number times) }
@@ -91,6 +165,30 @@ impl UsedNumbers {
         }
         Ok(())
     }
+
+    /// The same as [`UsedNumbers::cells_weight`].
+    fn cells_weight(&self, names: &NameTable<Name>) -> Option<u64>
+        ensures { result ≡ names_weight names.now.named self.now }
+    {
+        let mut weight = tabled_cells_weight(&self.table, names)?;
+        for (number, times) in &self.others {
+            let bytes = names.get(*number)?.as_bytes().len() as u64;
+            weight = weight.saturating_add(times.saturating_mul(bytes));
+        }
+        Some(weight)
+    }
+
+    /// The same as [`UsedNumbers::strings_weight`].
+    fn strings_weight(&self, strings: &NameTable<Label>) -> Option<u64>
+        ensures { result ≡ names_weight strings.now.named self.now }
+    {
+        let mut weight = tabled_strings_weight(&self.table, strings)?;
+        for (number, times) in &self.others {
+            let bytes = strings.get(*number)?.as_bytes().len() as u64;
+            weight = weight.saturating_add(times.saturating_mul(bytes));
+        }
+        Some(weight)
+    }
 }
 
 /// The bytes of the names of cells whose numbers are in a table.
@@ -108,18 +206,6 @@ fn tabled_cells_weight(table: &[u64], names: &NameTable<Name>) -> Option<u64>
     Some(weight)
 }
 
-/// The bytes of the names of cells that are placed by number.
-pub(crate) fn cells_weight(used: &UsedNumbers, names: &NameTable<Name>) -> Option<u64>
-    ensures { result ≡ names_weight names.now.named used.now }
-{
-    let mut weight = tabled_cells_weight(&used.table, names)?;
-    for (number, times) in &used.others {
-        let bytes = names.get(*number)?.as_bytes().len() as u64;
-        weight = weight.saturating_add(times.saturating_mul(bytes));
-    }
-    Some(weight)
-}
-
 /// The bytes of the text strings whose numbers are in a table.
 fn tabled_strings_weight(table: &[u64], strings: &NameTable<Label>) -> Option<u64>
     ensures sum { (others : List (ℕ × ℕ)) → joined result (names_weight strings.now.named others) ≡ names_weight strings.now.named (with_table 0 table.now others) }
@@ -131,18 +217,6 @@ fn tabled_strings_weight(table: &[u64], strings: &NameTable<Label>) -> Option<u6
             let bytes = strings.get(number as u64)?.as_bytes().len() as u64;
             weight = weight.saturating_add(times.saturating_mul(bytes));
         }
-    }
-    Some(weight)
-}
-
-/// The bytes of the text strings that are written by number.
-pub(crate) fn strings_weight(used: &UsedNumbers, strings: &NameTable<Label>) -> Option<u64>
-    ensures { result ≡ names_weight strings.now.named used.now }
-{
-    let mut weight = tabled_strings_weight(&used.table, strings)?;
-    for (number, times) in &used.others {
-        let bytes = strings.get(*number)?.as_bytes().len() as u64;
-        weight = weight.saturating_add(times.saturating_mul(bytes));
     }
     Some(weight)
 }

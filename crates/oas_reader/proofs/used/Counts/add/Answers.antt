@@ -4,7 +4,7 @@ use Rattle.oas_elements.specs.Bag.{put_more}
 use Rattle.oas_elements.specs.Laws.BagLaws.{total}
 use Rattle.oas_reader.specs.Used.{with_table}
 use Rattle.oas_reader.proofs.UsedTables.{tabled_few, table_more}
-use Rattle.oas_reader.proofs.used.UsedNumbers.add.Goals as goal
+use Rattle.oas_reader.proofs.used.Counts.add.Goals as goal
 
 pub overflow_add-had : goal.overflow_add-had
 overflow_add-had c =

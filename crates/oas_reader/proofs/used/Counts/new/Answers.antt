@@ -1,5 +1,5 @@
 use Rattle.std.proofs.Common.{rules}
-use Rattle.oas_reader.proofs.used.UsedNumbers.new.Goals as goal
+use Rattle.oas_reader.proofs.used.Counts.new.Goals as goal
 
 pub returns : goal.returns
 returns c = search rules

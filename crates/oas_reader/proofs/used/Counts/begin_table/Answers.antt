@@ -1,6 +1,6 @@
 use Rattle.std.proofs.Common.{◌∙◌, arith}
 use Rattle.oas_reader.proofs.UsedTables.{table_longer}
-use Rattle.oas_reader.proofs.used.UsedNumbers.begin_table.Goals as goal
+use Rattle.oas_reader.proofs.used.Counts.begin_table.Goals as goal
 
 pub returns-in_ok-resize : goal.returns-in_ok-resize
 returns-in_ok-resize c =

@@ -5,7 +5,7 @@ use Rattle.oas_elements.specs.Laws.BagLaws.{total}
 use Rattle.oas_reader.specs.Used.{with_table}
 use Rattle.oas_reader.proofs.UsedLemmas.{used_few, put_inserted}
 use Rattle.oas_reader.proofs.UsedTables.{table_total, table_other}
-use Rattle.oas_reader.proofs.used.UsedNumbers.add_other.Goals as goal
+use Rattle.oas_reader.proofs.used.Counts.add_other.Goals as goal
 
 pub count_up-requires : goal.count_up-requires
 count_up-requires c =
