@@ -35,8 +35,8 @@
 //!   has a type parameter (`Start`) that says which source it is and where it was.
 //! - src/judge.rt: the judge of a file, a `FormJudge` of oas_form and whether the head is as in a canonical file.
 //! - src/records.rt: a record at hand. It is read from the slice of what the source has at hand (`ahead` of oas_bytes), judged
-//!   by the bytes there, and then as many are taken (`skip`): so none is copied. A rectangle that gives all its fields goes
-//!   first, in code without calls; for the others the id says which way to try. An element that is spelled in the shortest
+//!   by the bytes there, and then as many are taken (`skip`): so none is copied. The id says which way to try. A rectangle that
+//!   gives all its fields is read in a function of its own, without calls. An element that is spelled in the shortest
 //!   style has the canonical bytes, by a law of oas_form, and none is compared: a rectangle, a placement or a text (src/named.rt:
 //!   where it follows an element of its kind, in the memory of that one), or a polygon or a path that the profile keeps
 //!   unchanged (src/figures.rt; proofs/FigureSteps.antt: the steps between the vertices of a plain list are that list). Most
